@@ -1,0 +1,7 @@
+pub mod Code
+pub mod Form
+pub mod Kind
+pub mod Laws
+pub mod Path
+pub mod Rounds
+pub mod Truth

@@ -1,0 +1,38 @@
+-- Roles: what a process of a pair is, alone.
+use Rattle.std.specs.Prelude.{ℕ, ◌≡◌, ◌≢◌, ◌<◌, ◌≤◌, List, length, All, AllPairs, Any}
+use Rattle.pair_structure.specs.declared.side.LocalArc.{LocalArc}
+
+-- a role as a value: the names of its local states, the number of the one where it starts, and its arcs
+pub record RoleParts : Type 0 where
+  pub name : List ℕ
+  pub locals : List (List ℕ)
+  pub start : ℕ
+  pub arcs : List LocalArc
+
+-- some arc leads from p to q
+abbrev pub HasArc : List LocalArc → ℕ → ℕ → Type 0
+HasArc arcs p q = Any (λ (arc : LocalArc). (arc.from ≡ p) × (arc.to ≡ q)) arcs
+
+-- some arc leaves p
+abbrev pub HasArcFrom : List LocalArc → ℕ → Type 0
+HasArcFrom arcs p = Any (λ (arc : LocalArc). arc.from ≡ p) arcs
+
+-- an arc joins two different ones of so many local states
+pub record JoinsTwo (count : ℕ) (arc : LocalArc) : Type 0 where
+  pub from : arc.from < count
+  pub to : arc.to < count
+  pub differ : arc.from ≢ arc.to
+
+-- what makes local states, a start and arcs a role
+pub record AreLawful (locals : List (List ℕ)) (start : ℕ) (arcs : List LocalArc) : Type 0 where
+  pub some : 0 < length locals
+  pub few_locals : length locals ≤ 32
+  pub names_differ : AllPairs (λ x y. x ≢ y) locals
+  pub starts : start < length locals
+  pub few_arcs : length arcs ≤ 128
+  pub joins : All (JoinsTwo (length locals)) arcs
+  pub ends_differ : AllPairs (λ (x y : LocalArc). x.from ≡ y.from → x.to ≡ y.to → ⊥) arcs
+  pub leaves : (p : ℕ) → p < length locals → HasArcFrom arcs p
+
+abbrev pub IsRole : RoleParts → Type 0
+IsRole r = AreLawful r.locals r.start r.arcs

@@ -1,0 +1,50 @@
+-- Why some parts are no role, and which of the faults is the first.
+use Rattle.std.specs.Prelude.{ℕ, ◌≡◌, ◌<◌, ◌≤◌, ◌⊎◌, List, [], length, Any, false, take, slice_index_or}
+use Rattle.pair_structure.specs.declared.side.LocalArc.{LocalArc}
+use Rattle.pair_structure.specs.declared.role_fault.RoleFault.{RoleFault}
+use Rattle.pair_structure.specs.declared.role_fault.RoleFault.TheVariants.{NoLocal, TooManyLocals, LocalTwice, StartRange, TooManyArcs, ArcRange, SelfArc, ArcTwice, NoArc}
+use Rattle.pair_structure.specs.First.{IsFirst}
+use Rattle.pair_structure.specs.Role.{HasArc, HasArcFrom}
+
+-- an arc of a list by its number; past the end one that joins nothing
+abbrev pub arc_at : List LocalArc → ℕ → LocalArc
+arc_at arcs n = slice_index_or arcs n (record { from = 0; to = 0; free = false })
+
+-- the fault stands against these parts, at this place
+abbrev pub Stands : List (List ℕ) → ℕ → List LocalArc → RoleFault → Type 0
+Stands locals start arcs NoLocal = length locals ≡ 0
+Stands locals start arcs TooManyLocals = 32 < length locals
+Stands locals start arcs (LocalTwice local) = (local < length locals) × Any (λ name. name ≡ slice_index_or locals local []) (take local locals)
+Stands locals start arcs StartRange = length locals ≤ start
+Stands locals start arcs TooManyArcs = 128 < length arcs
+Stands locals start arcs (ArcRange arc) = (arc < length arcs) × ((length locals ≤ (arc_at arcs arc).from) ⊎ (length locals ≤ (arc_at arcs arc).to))
+Stands locals start arcs (SelfArc arc) = (arc < length arcs) × ((arc_at arcs arc).from ≡ (arc_at arcs arc).to)
+Stands locals start arcs (ArcTwice arc) = (arc < length arcs) × HasArc (take arc arcs) (arc_at arcs arc).from (arc_at arcs arc).to
+Stands locals start arcs (NoArc local) = (local < length locals) × (HasArcFrom arcs local → ⊥)
+
+-- the order of the kinds
+abbrev pub kind_of : RoleFault → ℕ
+kind_of NoLocal = 1
+kind_of TooManyLocals = 2
+kind_of (LocalTwice local) = 3
+kind_of StartRange = 4
+kind_of TooManyArcs = 5
+kind_of (ArcRange arc) = 6
+kind_of (SelfArc arc) = 7
+kind_of (ArcTwice arc) = 8
+kind_of (NoArc local) = 9
+
+-- of one kind the lowest number is the first
+abbrev pub place_of : RoleFault → ℕ
+place_of NoLocal = 0
+place_of TooManyLocals = 0
+place_of (LocalTwice local) = local
+place_of StartRange = 0
+place_of TooManyArcs = 0
+place_of (ArcRange arc) = arc
+place_of (SelfArc arc) = arc
+place_of (ArcTwice arc) = arc
+place_of (NoArc local) = local
+
+abbrev pub IsFirstRoleFault : List (List ℕ) → ℕ → List LocalArc → RoleFault → Type 0
+IsFirstRoleFault locals start arcs = IsFirst kind_of place_of (Stands locals start arcs)

@@ -1,0 +1,76 @@
+ghost use Rattle.std.specs.Prelude.{◌≡◌, IfOk, IfErr};
+ghost use Rattle.pair_structure.specs.Role.{IsRole, AreLawful};
+ghost use Rattle.pair_structure.specs.RoleFault.{IsFirstRoleFault};
+
+use crate::{LocalArc, Memory, Name, RoleFault};
+use std::alloc::Global;
+use std::marker::Model;
+
+/// A role: its name, its local states, the one where it starts, and its arcs. Local states and arcs are numbered in their order.
+#[derive(Debug, Drop)]
+pub struct Role {
+    name: Name,
+    locals: Vec<Name>,
+    start: u8,
+    arcs: Vec<LocalArc>,
+}
+
+impl Model for Role {
+    ghost use Rattle.pair_structure.specs.Role.{RoleParts, IsRole};
+
+    ghost Value = { RoleParts };
+
+    ghost view = { λ r. record { name = r.name; locals = r.locals.items; start = r.start; arcs = r.arcs.items } };
+
+    ghost invariant = { λ r. IsRole (record { name = r.name; locals = r.locals.items; start = r.start; arcs = r.arcs.items }) };
+}
+
+impl Role {
+    /// The role with these parts, or the first fault that stands against them. Takes no memory; at most 32 times 32 and 128 times 128
+    /// comparisons.
+    pub fn make(
+        name: Name,
+        locals: Vec<Name>,
+        start: u8,
+        arcs: Vec<LocalArc>,
+    ) -> Result<Role, RoleFault>
+        ensures role { IfOk result (λ r. r ≡ record { name = name; locals = locals.items; start = start; arcs = arcs.items }) }
+        ensures lawful { IfOk result (λ r. AreLawful locals.items start arcs.items) }
+    {
+        Err(RoleFault::NoLocal)
+    }
+
+    pub fn name(&self) -> &Name
+        ensures { result.now ≡ self.now.name }
+    {
+        &self.name
+    }
+
+    /// The names of the local states.
+    pub fn locals(&self) -> &[Name]
+        ensures locals { result.now ≡ self.now.locals }
+        ensures role { IsRole self.now }
+    {
+        &self.locals
+    }
+
+    /// The number of the local state where the role starts.
+    pub fn start(&self) -> u8
+        ensures { result ≡ self.now.start }
+    {
+        self.start
+    }
+
+    pub fn arcs(&self) -> &[LocalArc]
+        ensures { result.now ≡ self.now.arcs }
+    {
+        &self.arcs
+    }
+
+    /// An equal role.
+    pub fn copy(&self, alloc: Global) -> Result<Role, Memory>
+        ensures { IfOk result (λ r. r ≡ self.now) }
+    {
+        Err(Memory)
+    }
+}
