@@ -1,12 +1,18 @@
 //! Roles and pair structures: the finite graphs that a pair of processes runs over.
 #![tactic(auto)]
 
+mod arc_table;
+mod label_index;
+mod label_lists;
 mod memory;
+mod moves_of;
+mod move_check;
 mod name;
 mod role;
 mod role_fault;
 mod side;
 mod structure;
+mod structure_check;
 mod structure_fault;
 
 pub use memory::Memory;

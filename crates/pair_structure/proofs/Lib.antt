@@ -1,0 +1,6 @@
+pub mod ArcMarks
+pub mod Rising
+pub mod StatesLeft
+pub mod StructureFaults
+pub mod ListOfLists
+pub mod Ordinals
