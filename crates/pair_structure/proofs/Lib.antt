@@ -4,3 +4,5 @@ pub mod StatesLeft
 pub mod StructureFaults
 pub mod ListOfLists
 pub mod Ordinals
+pub mod Middle
+pub mod Turns

@@ -2,8 +2,9 @@
 use Rattle.std.proofs.Common.{ℕ, zero, suc, ◌≡◌, ◌<◌, ◌≤◌, ◌+◌, ◌⊎◌, List, length, get_or, arith, subst, ap, ◌∙◌, Some, inl, inr, refl, lit<}
 use Rattle.std.proofs.lemmas.Bool.{cases_lt}
 use Rattle.std.proofs.lemmas.List.{get_or_default}
-use Rattle.std.proofs.lemmas.Option.{slice_get-get_or}
+use Rattle.std.proofs.lemmas.Option.{slice_get-get_or, slice_get_within, get_or_from_slice_get}
 use Rattle.pair_structure.specs.declared.side.Move.{Move}
+use Rattle.pair_structure.specs.declared.side.Side.TheVariants.{A}
 use Rattle.pair_structure.specs.declared.structure_fault.StructureFault.{StructureFault}
 use Rattle.pair_structure.specs.declared.structure_fault.StructureFault.TheVariants.{Empty, Start, LocalRange, MoveRange, NotAnArc, OtherSideMoved, NotRising, NoMove, Memory}
 use Rattle.pair_structure.specs.First.{ComesFirst}
@@ -13,6 +14,9 @@ use Rattle.pair_structure.specs.StructureCheck.{AreLabelled, AreMoves, IsInRange
 use Rattle.pair_structure.specs.StructureFault.{Stands, kind_of, place_of, move_at, IsFirstStructureFault}
 use Rattle.pair_structure.proofs.Rising.{IsRising-from_each}
 use Rattle.pair_structure.proofs.StatesLeft.{left_from_reach, reach_from_left}
+
+abbrev no_move : Move
+no_move = record { from = 0; side = A; to = 0 }
 
 pub falls_at : (moves : List Move) (n : ℕ) → (RisesAt moves n → ⊥) → (before : ℕ) × (before + 1 ≡ n) × (IsBefore (move_at moves before) (move_at moves n) → ⊥)
 falls_at moves zero falls = absurd (falls (λ before is. absurd (omega (arith, is))))
@@ -53,3 +57,17 @@ IsPairStructure_from_checks a b states moves labelled lawful left = record {
     onward = λ s lt. reach_from_left (record { states = states; moves = moves }) s (left s lt);
   };
 }
+
+-- no fault stands against a structure
+pub none_against : (a b : RoleParts) (states : List (ℕ × ℕ)) (moves : List Move) → IsPairStructure a b states moves → (fault : StructureFault) → Stands a b states moves fault → ⊥
+none_against a b states moves m Empty stands = omega (arith, stands, slice_get_within states 0 _ m.start)
+none_against a b states moves m Start stands = stands.1 (get_or_from_slice_get states 0 _ (0, 0) m.start)
+none_against a b states moves m (LocalRange s) stands = stands.1 (m.labels s (0, 0) stands.0)
+none_against a b states moves m (MoveRange n) stands =
+    let lawful = m.lawful n no_move stands.0 in elim stands.1 [ inl past ↦ omega (arith, past, lawful.from) | inr past ↦ omega (arith, past, lawful.to) ]
+none_against a b states moves m (NotAnArc n) stands = stands.1 (m.lawful n no_move stands.0).arc
+none_against a b states moves m (OtherSideMoved n) stands = stands.1 (m.lawful n no_move stands.0).stays
+none_against a b states moves m (NotRising n) (lt, falls) =
+    falls.2 (subst (λ n. IsBefore (move_at moves falls.0) (move_at moves n)) falls.1 (m.rising falls.0 no_move (omega (arith, falls.1))))
+none_against a b states moves m (NoMove s) stands = let onward = m.goes_on.onward s stands.0 in stands.1 onward.0 onward.1
+none_against a b states moves m Memory stands = stands

@@ -10,3 +10,4 @@ pub mod RoleFault
 pub mod Structure
 pub mod StructureCheck
 pub mod StructureFault
+pub mod Turn

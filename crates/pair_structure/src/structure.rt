@@ -5,7 +5,7 @@ ghost use Rattle.pair_structure.specs.StructureFault.{IsFirstStructureFault};
 
 use crate::label_index::LabelIndex;
 use crate::moves_of::moves_of;
-use crate::structure_check::fault_of;
+use crate::structure_check::{fault_of, is_structure};
 use crate::{Memory, Move, Role, Side, StructureFault};
 use std::alloc::{AllocError, Global};
 use std::marker::Model;
@@ -107,7 +107,7 @@ impl PairStructure {
     pub fn is_over(&self, a: &Role, b: &Role) -> bool
         ensures { IsTrue result ↔ IsOver a.now b.now self.now }
     {
-        fault_of(a, b, self.states(), &self.moves).is_none()
+        is_structure(a, b, self.states(), self.moves())
     }
 
     /// An equal structure.

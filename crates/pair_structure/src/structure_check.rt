@@ -1,4 +1,4 @@
-ghost use Rattle.std.specs.Prelude.{◌≡◌, ◌<◌, ℕ, All, List, length, MatchOption};
+ghost use Rattle.std.specs.Prelude.{◌≡◌, ◌<◌, ◌↔◌, ℕ, All, IsTrue, List, length, MatchOption};
 ghost use Rattle.pair_structure.specs.ArcTable.{IsInTable};
 ghost use Rattle.pair_structure.specs.declared.side.Move.{Move};
 ghost use Rattle.pair_structure.specs.FirstFailing.{IsFirstFailing};
@@ -11,8 +11,8 @@ use crate::move_check::{
 };
 use crate::{LocalArc, Move, Role, StructureFault};
 
-#[tactic(auto, using(crate::proofs::StructureFaults::IsPairStructure_from_checks))]
 /// The first fault that stands against states and moves over two roles. Linear in states and moves; takes no memory.
+#[tactic(auto, using(crate::proofs::StructureFaults::IsPairStructure_from_checks))]
 pub(crate) fn fault_of(
     a: &Role,
     b: &Role,
@@ -30,6 +30,17 @@ pub(crate) fn fault_of(
     match first_without_move(states.len() as u64, moves) {
         Some(state) => Some(StructureFault::NoMove { state }),
         None => None,
+    }
+}
+
+/// Whether states and moves are a structure over two roles. Linear in states and moves; takes no memory.
+#[tactic(auto, using(crate::proofs::StructureFaults::none_against))]
+pub(crate) fn is_structure(a: &Role, b: &Role, states: &[(u8, u8)], moves: &[Move]) -> bool
+    ensures { IsTrue result ↔ IsPairStructure a.now b.now states.now moves.now }
+{
+    match fault_of(a, b, states, moves) {
+        Some(_fault) => false,
+        None => true,
     }
 }
 
