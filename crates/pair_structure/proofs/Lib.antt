@@ -6,3 +6,4 @@ pub mod ListOfLists
 pub mod Ordinals
 pub mod Middle
 pub mod Turns
+pub mod MoveOrder

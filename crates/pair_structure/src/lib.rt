@@ -7,6 +7,7 @@ mod label_lists;
 mod memory;
 mod moves_of;
 mod move_check;
+mod move_order;
 mod name;
 mod role;
 mod role_fault;
@@ -16,6 +17,7 @@ mod structure_check;
 mod structure_fault;
 
 pub use memory::Memory;
+pub use move_order::arrange;
 pub use name::{Name, NameFault};
 pub use role::Role;
 pub use role_fault::RoleFault;
