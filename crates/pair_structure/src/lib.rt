@@ -1,6 +1,7 @@
 //! Roles and pair structures: the finite graphs that a pair of processes runs over.
 #![tactic(auto)]
 
+mod rising;
 mod memory;
 mod name;
 mod role;
@@ -9,6 +10,7 @@ mod side;
 mod structure;
 mod structure_fault;
 
+pub use rising::arrange;
 pub use memory::Memory;
 pub use name::{Name, NameFault};
 pub use role::Role;

@@ -36,6 +36,7 @@ impl PairStructure {
         ensures structure { IfOk result (λ m. m ≡ record { states = states.now; moves = moves.now }) }
         ensures lawful { IfOk result (λ m. IsPairStructure a.now b.now states.now moves.now) }
         ensures fault { IfErr result (λ fault. fault ≢ StructureFault.Memory → IsFirstStructureFault a.now b.now states.now moves.now fault) }
+        ensures refused { IfErr result (λ fault. fault ≢ StructureFault.Memory → IsPairStructure a.now b.now states.now moves.now → ⊥) }
     {
         Err(StructureFault::Memory)
     }
