@@ -1,7 +1,8 @@
-ghost use Rattle.std.specs.Prelude.{◌≡◌, IfOk, IfErr};
+ghost use Rattle.std.specs.Prelude.{◌≡◌, IsOk, IfOk, IfErr};
 ghost use Rattle.pair_structure.specs.Role.{IsRole, AreLawful};
 ghost use Rattle.pair_structure.specs.RoleFault.{IsFirstRoleFault};
 
+use crate::role_fault::fault_of;
 use crate::{LocalArc, Memory, Name, RoleFault};
 use std::alloc::Global;
 use std::marker::Model;
@@ -36,8 +37,18 @@ impl Role {
     ) -> Result<Role, RoleFault>
         ensures role { IfOk result (λ r. r ≡ record { name = name; locals = locals.items; start = start; arcs = arcs.items }) }
         ensures lawful { IfOk result (λ r. AreLawful locals.items start arcs.items) }
+        ensures exact { AreLawful locals.items start arcs.items → IsOk result }
+        ensures fault { IfErr result (IsFirstRoleFault locals.items start arcs.items) }
     {
-        Err(RoleFault::NoLocal)
+        match fault_of(&locals, start, &arcs) {
+            Some(fault) => Err(fault),
+            None => Ok(Role {
+                name,
+                locals,
+                start,
+                arcs,
+            }),
+        }
     }
 
     pub fn name(&self) -> &Name
@@ -71,6 +82,21 @@ impl Role {
     pub fn copy(&self, alloc: Global) -> Result<Role, Memory>
         ensures { IfOk result (λ r. r ≡ self.now) }
     {
-        Err(Memory)
+        Ok(Role {
+            name: self.name.copy(alloc)?,
+            locals: copies_of(alloc, &self.locals)?,
+            start: self.start,
+            arcs: Vec::from_slice(alloc, &self.arcs)?,
+        })
     }
+}
+
+fn copies_of(alloc: Global, names: &[Name]) -> Result<Vec<Name>, Memory>
+    ensures { IfOk result (λ copies. copies.items ≡ names.now) }
+{
+    let mut copies = Vec::with_capacity(alloc, names.len())?;
+    for name in names {
+        copies.push(name.copy(alloc)?)?;
+    }
+    Ok(copies)
 }

@@ -1,0 +1,3 @@
+pub mod AllPairsLaws
+pub mod FirstLaws
+pub mod RoleFaultLaws
