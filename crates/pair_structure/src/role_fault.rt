@@ -75,8 +75,8 @@ fn fault_of_locals(locals: &[Name], start: u8) -> Option<RoleFault>
 fn first_repeated_name(locals: &[Name]) -> Option<usize>
     ensures { IsLeast (HasEarlierName locals.now) (length locals.now) result }
 {
-    for local in 0..locals.len() {
-        if has_name(&locals[..local], &locals[local]) {
+    for (local, name) in locals.iter().enumerate() {
+        if has_name(&locals[..local], name) {
             return Some(local);
         }
     }
@@ -114,9 +114,9 @@ fn fault_of_arcs(locals: &[Name], arcs: &[LocalArc]) -> Option<RoleFault>
 fn first_outside(count: usize, arcs: &[LocalArc]) -> Option<usize>
     ensures { IsLeast (EndsOutside count arcs.now) (length arcs.now) result }
 {
-    for arc in 0..arcs.len() {
-        if arcs[arc].from as usize >= count || arcs[arc].to as usize >= count {
-            return Some(arc);
+    for (number, arc) in arcs.iter().enumerate() {
+        if arc.from as usize >= count || arc.to as usize >= count {
+            return Some(number);
         }
     }
     None
@@ -125,9 +125,9 @@ fn first_outside(count: usize, arcs: &[LocalArc]) -> Option<usize>
 fn first_loop(arcs: &[LocalArc]) -> Option<usize>
     ensures { IsLeast (JoinsItself arcs.now) (length arcs.now) result }
 {
-    for arc in 0..arcs.len() {
-        if arcs[arc].from == arcs[arc].to {
-            return Some(arc);
+    for (number, arc) in arcs.iter().enumerate() {
+        if arc.from == arc.to {
+            return Some(number);
         }
     }
     None
@@ -136,9 +136,9 @@ fn first_loop(arcs: &[LocalArc]) -> Option<usize>
 fn first_repeated_arc(arcs: &[LocalArc]) -> Option<usize>
     ensures { IsLeast (HasEarlierEnds arcs.now) (length arcs.now) result }
 {
-    for arc in 0..arcs.len() {
-        if has_arc(&arcs[..arc], arcs[arc].from, arcs[arc].to) {
-            return Some(arc);
+    for (number, arc) in arcs.iter().enumerate() {
+        if has_arc(&arcs[..number], arc.from, arc.to) {
+            return Some(number);
         }
     }
     None
