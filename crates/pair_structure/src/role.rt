@@ -37,7 +37,7 @@ impl Role {
     ) -> Result<Role, RoleFault>
         ensures role { IfOk result (λ r. r ≡ record { name = name; locals = locals.items; start = start; arcs = arcs.items }) }
         ensures lawful { IfOk result (λ r. AreLawful locals.items start arcs.items) }
-        ensures exact { AreLawful locals.items start arcs.items → IsOk result }
+        ensures accepts { AreLawful locals.items start arcs.items → IsOk result }
         ensures fault { IfErr result (IsFirstRoleFault locals.items start arcs.items) }
     {
         match fault_of(&locals, start, &arcs) {

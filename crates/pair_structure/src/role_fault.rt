@@ -7,6 +7,10 @@ ghost use Rattle.pair_structure.specs.RoleFault.{IsFirstRoleFault, NoneBefore, H
 use crate::{LocalArc, Name};
 use thiserror::Error;
 
+const MAX_LOCALS: usize = 32;
+
+const MAX_ARCS: usize = 128;
+
 /// Why some parts are no role. The order of the variants is the order of refusals: the first that stands is answered, and of one kind
 /// the lowest number.
 #[derive(Clone, Copy, Debug, PartialEq, Eq, Error)]
@@ -40,10 +44,6 @@ pub enum RoleFault {
     NoArc { local: u8 },
 }
 
-const MAX_LOCALS: usize = 32;
-
-const MAX_ARCS: usize = 128;
-
 /// The first fault of these parts, if they have one.
 pub(crate) fn fault_of(locals: &[Name], start: u8, arcs: &[LocalArc]) -> Option<RoleFault>
     ensures { MatchOption result (AreLawful locals.now start arcs.now) (IsFirstRoleFault locals.now start arcs.now) }
@@ -55,7 +55,8 @@ pub(crate) fn fault_of(locals: &[Name], start: u8, arcs: &[LocalArc]) -> Option<
 }
 
 fn fault_of_locals(locals: &[Name], start: u8) -> Option<RoleFault>
-    ensures { (arcs : List LocalArc) → MatchOption result (NoneBefore locals.now start arcs RoleFault.TooManyArcs) (IsFirstRoleFault locals.now start arcs) }
+    ensures { (arcs : List LocalArc) →
+        MatchOption result (NoneBefore locals.now start arcs RoleFault.TooManyArcs) (IsFirstRoleFault locals.now start arcs) }
 {
     if locals.is_empty() {
         return Some(RoleFault::NoLocal);
@@ -91,15 +92,16 @@ fn has_name(names: &[Name], name: &Name) -> bool
 
 fn fault_of_arcs(locals: &[Name], arcs: &[LocalArc]) -> Option<RoleFault>
     requires { length locals.now ≤ 32 }
-    ensures { (start : ℕ) → NoneBefore locals.now start arcs.now RoleFault.TooManyArcs → MatchOption result (AreLawful locals.now start arcs.now) (IsFirstRoleFault locals.now start arcs.now) }
+    ensures { (start : ℕ) → NoneBefore locals.now start arcs.now RoleFault.TooManyArcs →
+        MatchOption result (AreLawful locals.now start arcs.now) (IsFirstRoleFault locals.now start arcs.now) }
 {
     if arcs.len() > MAX_ARCS {
         return Some(RoleFault::TooManyArcs);
     }
-    if let Some(arc) = first_outside(locals.len(), arcs) {
+    if let Some(arc) = first_arc_outside(locals.len(), arcs) {
         return Some(RoleFault::ArcRange { arc: arc as u32 });
     }
-    if let Some(arc) = first_loop(arcs) {
+    if let Some(arc) = first_self_arc(arcs) {
         return Some(RoleFault::SelfArc { arc: arc as u32 });
     }
     if let Some(arc) = first_repeated_arc(arcs) {
@@ -111,7 +113,7 @@ fn fault_of_arcs(locals: &[Name], arcs: &[LocalArc]) -> Option<RoleFault>
     None
 }
 
-fn first_outside(count: usize, arcs: &[LocalArc]) -> Option<usize>
+fn first_arc_outside(count: usize, arcs: &[LocalArc]) -> Option<usize>
     ensures { IsLeast (EndsOutside count arcs.now) (length arcs.now) result }
 {
     for (number, arc) in arcs.iter().enumerate() {
@@ -122,7 +124,7 @@ fn first_outside(count: usize, arcs: &[LocalArc]) -> Option<usize>
     None
 }
 
-fn first_loop(arcs: &[LocalArc]) -> Option<usize>
+fn first_self_arc(arcs: &[LocalArc]) -> Option<usize>
     ensures { IsLeast (JoinsItself arcs.now) (length arcs.now) result }
 {
     for (number, arc) in arcs.iter().enumerate() {
