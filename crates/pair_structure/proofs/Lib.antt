@@ -1,1 +1,4 @@
+pub mod AllPairsLaws
+pub mod FirstLaws
 pub mod MoveOrder
+pub mod RoleFaultLaws
