@@ -21,11 +21,13 @@ pub table_more : (rows marked : List (List Bool)) (arcs : List LocalArc) (n : �
     → ((p q : ℕ) → (((get_or arcs n d).from ≡ p) × ((get_or arcs n d).to ≡ q) → ⊥) → is_marked marked p q ≡ is_marked rows p q) → IsTableOf rows (take n arcs) → IsTableOf marked (take (n + 1) arcs)
 table_more rows marked arcs n d lt here elsewhere is p q =
     elim (cases_eq (get_or arcs n d).from p) [
-      inr differ ↦ go (λ same. differ same.0) | inl same_from ↦ elim (cases_eq (get_or arcs n d).to q) [
-        inr differ ↦ go (λ same. differ same.1) | inl same_to ↦ (
-            λ _. arcs_more arcs n p q d lt (inr (same_from, same_to)),
-            λ _. subst (λ x. IsTrue (is_marked marked x q)) same_from (subst (λ y. IsTrue (is_marked marked (get_or arcs n d).from y)) same_to here),
-          )
+      | inr differ ↦ go (λ same. differ same.0)
+      | inl same_from ↦ elim (cases_eq (get_or arcs n d).to q) [
+        | inr differ ↦ go (λ same. differ same.1)
+        | inl same_to ↦ (
+          λ _. arcs_more arcs n p q d lt (inr (same_from, same_to)),
+          λ _. subst (λ x. IsTrue (is_marked marked x q)) same_from (subst (λ y. IsTrue (is_marked marked (get_or arcs n d).from y)) same_to here),
+        )
       ]
     ]
   where

@@ -1,9 +1,12 @@
+pub mod AllPairsLaws
 pub mod ArcMarks
-pub mod Rising
-pub mod StatesLeft
-pub mod StructureFaults
+pub mod FirstLaws
 pub mod ListOfLists
-pub mod Ordinals
 pub mod Middle
-pub mod Turns
 pub mod MoveOrder
+pub mod Ordinals
+pub mod Rising
+pub mod RoleFaultLaws
+pub mod StatesLeft
+pub mod StructureFaultLaws
+pub mod Turns

@@ -27,11 +27,11 @@ listed_here : (states : List (ℕ × ℕ)) (n : ℕ) (list : List ℕ) → n < l
 listed_here states n list lt listed = record {
   count = omega (arith, length-append {A = ℕ}, listed.count, count_by_more_yes (is_same_label (label_at states n)) states n (0, 0) lt (same_label (label_at states n)));
   each = λ x below. elim (cases_lt x (length list)) [
-    inl before ↦ subst (IsStateAt states (label_at states n) x) (sym (get_or_append_left list (n ∷ []) 0 x before)) (listed.each x before)
-  | inr after ↦ (
-      let last : length list ≡ x = omega (arith, length-append {A = ℕ}) in
-      subst (IsStateAt states (label_at states n) x) (sym (get_or_push list n 0 x last)) (record { within = lt; label_is = refl; ordinal_is = sym listed.count ∙ last })
-    )
+    | inl before ↦ subst (IsStateAt states (label_at states n) x) (sym (get_or_append_left list (n ∷ []) 0 x before)) (listed.each x before)
+    | inr after ↦ (
+        let last : length list ≡ x = omega (arith, length-append {A = ℕ}) in
+        subst (IsStateAt states (label_at states n) x) (sym (get_or_push list n 0 x last)) (record { within = lt; label_is = refl; ordinal_is = sym listed.count ∙ last })
+        )
   ];
 }
 
@@ -50,19 +50,20 @@ pub IsIndexBelow-more : (states : List (ℕ × ℕ)) (n : ℕ) (ordinals : List 
 IsIndexBelow-more states n ordinals rows grown lt index here elsewhere = record {
   long = omega (arith, length-append {A = ℕ}, index.long);
   ordinal = below_more _ n
-  (λ s before. get_or_append_left ordinals _ 0 s (omega (arith, index.long)) ∙ index.ordinal s before)
-  (get_or_push ordinals _ 0 n index.long ∙ (index.lists (label_at states n).0 (label_at states n).1).count);
+      (λ s before. get_or_append_left ordinals _ 0 s (omega (arith, index.long)) ∙ index.ordinal s before)
+      (get_or_push ordinals _ 0 n index.long ∙ (index.lists (label_at states n).0 (label_at states n).1).count);
   lists = λ p q. elim (cases_eq (label_at states n).0 p) [
-    inr differ ↦ apart p q (λ same. differ same.0)
-  | inl same ↦ elim (cases_eq (label_at states n).1 q) [
-      inr differ ↦ apart p q (λ same. differ same.1)
-    | inl same' ↦ subst (λ q. IsListed states (n + 1) (p, q) (list_at grown p q)) same' (subst (λ p. IsListed states (n + 1) (p, (label_at states n).1) (list_at grown p (label_at states n).1)) same own)
+    | inr differ ↦ apart p q (λ same. differ same.0)
+    | inl same ↦ elim (cases_eq (label_at states n).1 q) [
+      | inr differ ↦ apart p q (λ same. differ same.1)
+      | inl same' ↦ subst (λ q. IsListed states (n + 1) (p, q) (list_at grown p q)) same' (subst (λ p. IsListed states (n + 1) (p, (label_at states n).1) (list_at grown p (label_at states n).1)) same own)
     ]
   ];
 }
   where
     own : IsListed states (n + 1) (label_at states n) (list_at grown (label_at states n).0 (label_at states n).1)
     own = rw here (listed_here states n _ lt (index.lists (label_at states n).0 (label_at states n).1))
+
     apart : (p q : ℕ) → (((label_at states n).0 ≡ p) × ((label_at states n).1 ≡ q) → ⊥) → IsListed states (n + 1) (p, q) (list_at grown p q)
     apart p q differ = rw (elsewhere p q differ) (listed_elsewhere states n p q (list_at rows p q) lt differ (index.lists p q))
 

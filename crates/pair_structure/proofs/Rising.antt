@@ -24,9 +24,9 @@ IsRising-from_each moves each k d lt = grind (arith, each (k + 1) lt k, get_or_d
 
 turn_rises : (x y : Move) → IsBefore x y → turn x.from x.side ≤ turn y.from y.side
 turn_rises x y before = elim before [
-      inl lt ↦ omega (arith, lt, side_below x.side)
-    | inr (same, later) ↦ elim later [ inl lt ↦ omega (arith, lt, same) | inr (same_side, lt) ↦ omega (arith, same, ap side_number same_side) ]
-    ]
+  | inl lt ↦ omega (arith, lt, side_below x.side)
+  | inr (same, later) ↦ elim later [ inl lt ↦ omega (arith, lt, same) | inr (same_side, lt) ↦ omega (arith, same, ap side_number same_side) ]
+]
   where
     side_below : (side : Side) → side_number side ≤ 1
     side_below A = omega arith

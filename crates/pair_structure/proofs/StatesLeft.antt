@@ -28,7 +28,8 @@ HaveLeft-again moves n next have lt = record { left = have.left; passed = below_
 pub passed_over : (moves : List Move) (n next : ℕ) → IsRising moves → HaveLeft moves n next → n < length moves → next < (move_at moves n).from → IsLeft moves next → ⊥
 passed_over moves n next rising have lt above (k, move, within, is, from) =
     elim (cases_lt k n) [
-      inl before ↦ grind (arith, have.passed k before, get_or_default moves k) | inr after ↦ grind (arith, from_rises moves rising n k move after within, get_or_default moves n)
+      | inl before ↦ grind (arith, have.passed k before, get_or_default moves k)
+      | inr after ↦ grind (arith, from_rises moves rising n k move after within, get_or_default moves n)
     ]
 
 reach : (m : Structure) (side : Side) (s t : ℕ) → HasMove m side s t → Reaches m s t
@@ -40,5 +41,6 @@ reach_from_left m s (k, move, within, is, from) = (move.to, subst (λ s. Reaches
 
 pub left_from_reach : (m : Structure) (s t : ℕ) → Reaches m s t → IsLeft m.moves s
 left_from_reach m s t reaches = elim reaches [
-  inl (k, within, is) ↦ (k, record { from = s; side = A; to = t }, within, is, refl) | inr (k, within, is) ↦ (k, record { from = s; side = B; to = t }, within, is, refl)
+  | inl (k, within, is) ↦ (k, record { from = s; side = A; to = t }, within, is, refl)
+  | inr (k, within, is) ↦ (k, record { from = s; side = B; to = t }, within, is, refl)
 ]

@@ -29,5 +29,6 @@ take_is_moves_of moves state side begin count earlier by within = take_is_filter
   where
     here : (m : Move) → turn m.from m.side ≡ turn state side → leaves state side m ≡ true
     here m same = leaves_by_turn state m.from side m.side m.to ∙ eq-eqb _ _ same
+
     not_here : (m : Move) → (turn m.from m.side ≡ turn state side → ⊥) → leaves state side m ≡ false
     not_here m differ = leaves_by_turn state m.from side m.side m.to ∙ ne_eqb _ _ differ

@@ -29,6 +29,7 @@ impl Model for PairStructure {
 
 impl PairStructure {
     /// The structure with these states and moves over the two roles, or the first fault that stands against them. Linear in states and moves.
+    #[tactic(auto, using(crate::proofs::StructureFaultLaws::none_against))]
     pub fn make(
         alloc: Global,
         a: &Role,
@@ -39,6 +40,7 @@ impl PairStructure {
         ensures structure { IfOk result (λ m. m ≡ record { states = states.now; moves = moves.now }) }
         ensures lawful { IfOk result (λ m. IsPairStructure a.now b.now states.now moves.now) }
         ensures fault { IfErr result (λ fault. fault ≢ StructureFault.Memory → IsFirstStructureFault a.now b.now states.now moves.now fault) }
+        ensures refused { IfErr result (λ fault. fault ≢ StructureFault.Memory → IsPairStructure a.now b.now states.now moves.now → ⊥) }
     {
         if let Some(fault) = fault_of(a, b, states, moves) {
             return Err(fault);
@@ -49,11 +51,7 @@ impl PairStructure {
         }
     }
 
-    fn of(
-        alloc: Global,
-        states: &[(u8, u8)],
-        moves: &[Move],
-    ) -> Result<PairStructure, AllocError>
+    fn of(alloc: Global, states: &[(u8, u8)], moves: &[Move]) -> Result<PairStructure, AllocError>
         requires goes_on { GoesOn (record { states = states.now; moves = moves.now }) }
         requires rising { IsRising moves.now }
         ensures { IfOk result (λ m. m ≡ record { states = states.now; moves = moves.now }) }

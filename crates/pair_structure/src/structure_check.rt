@@ -12,7 +12,7 @@ use crate::move_check::{
 use crate::{LocalArc, Move, Role, StructureFault};
 
 /// The first fault that stands against states and moves over two roles. Linear in states and moves; takes no memory.
-#[tactic(auto, using(crate::proofs::StructureFaults::IsPairStructure_from_checks))]
+#[tactic(auto, using(crate::proofs::StructureFaultLaws::IsPairStructure_from_checks))]
 pub(crate) fn fault_of(
     a: &Role,
     b: &Role,
@@ -34,7 +34,7 @@ pub(crate) fn fault_of(
 }
 
 /// Whether states and moves are a structure over two roles. Linear in states and moves; takes no memory.
-#[tactic(auto, using(crate::proofs::StructureFaults::none_against))]
+#[tactic(auto, using(crate::proofs::StructureFaultLaws::none_against))]
 pub(crate) fn is_structure(a: &Role, b: &Role, states: &[(u8, u8)], moves: &[Move]) -> bool
     ensures { IsTrue result ↔ IsPairStructure a.now b.now states.now moves.now }
 {
@@ -45,10 +45,8 @@ pub(crate) fn is_structure(a: &Role, b: &Role, states: &[(u8, u8)], moves: &[Mov
 }
 
 fn label_fault(a: &Role, b: &Role, states: &[(u8, u8)]) -> Option<StructureFault>
-    ensures {
-        MatchOption result (AreLabelled a.now b.now states.now)
-        (λ fault. (moves : List Move) → IsFirstStructureFault a.now b.now states.now moves fault)
-    }
+    ensures { MatchOption result (AreLabelled a.now b.now states.now)
+        (λ fault. (moves : List Move) → IsFirstStructureFault a.now b.now states.now moves fault) }
 {
     if states.is_empty() {
         return Some(StructureFault::Empty);
@@ -73,13 +71,11 @@ fn first_off_label(a: usize, b: usize, states: &[(u8, u8)]) -> Option<u64>
     None
 }
 
-#[tactic(auto, using(crate::proofs::StructureFaults::falls_at))]
+#[tactic(auto, using(crate::proofs::StructureFaultLaws::falls_at))]
 fn move_fault(a: &Role, b: &Role, states: &[(u8, u8)], moves: &[Move]) -> Option<StructureFault>
     requires { AreLabelled a.now b.now states.now }
-    ensures {
-        MatchOption result (AreMoves a.now b.now states.now moves.now)
-        (IsFirstStructureFault a.now b.now states.now moves.now)
-    }
+    ensures { MatchOption result (AreMoves a.now b.now states.now moves.now)
+        (IsFirstStructureFault a.now b.now states.now moves.now) }
 {
     if let Some(move_no) = first_out_of_range(states.len() as u64, moves) {
         return Some(StructureFault::MoveRange { move_no });

@@ -7,8 +7,8 @@ pub loop-m-preserved : goal.loop-m-preserved
 loop-m-preserved c =
     let have = c.loop-m.invariant.have in
     elim c.if-m-next-2.branch [
-      then-m-next-2 w ↦ rw w.next-is (record { within = omega (arith, c.requires.in_range c.loop-m.m-index c.loop-m-test.true); have = HaveLeft-next _ _ _ have c.loop-m-test.true w.if-m-next-2.true })
-    | else-m-next-2 w ↦ rw w.next-is (record { within = c.loop-m.invariant.within; have = HaveLeft-again _ _ _ have (omega arith) })
+      | then-m-next-2 w ↦ rw w.next-is (record { within = omega (arith, c.requires.in_range c.loop-m.m-index c.loop-m-test.true); have = HaveLeft-next _ _ _ have c.loop-m-test.true w.if-m-next-2.true })
+      | else-m-next-2 w ↦ rw w.next-is (record { within = c.loop-m.invariant.within; have = HaveLeft-again _ _ _ have (omega arith) })
     ]
 
 pub returns-then-m-next : goal.returns-then-m-next

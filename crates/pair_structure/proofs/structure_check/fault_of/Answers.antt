@@ -1,4 +1,4 @@
-use Rattle.pair_structure.proofs.StructureFaults.{first_no_move}
+use Rattle.pair_structure.proofs.StructureFaultLaws.{first_no_move}
 use Rattle.pair_structure.proofs.structure_check.fault_of.Goals as goal
 
 pub returns-in-Some-first_without_move : goal.returns-in-Some-first_without_move

@@ -40,7 +40,8 @@ first_no_move a b states moves s labelled lawful within none left = record { sta
     go (NotRising k) (lt, falls) = absurd (falls.2 (lawful.rising k lt falls.0 falls.1))
     go (NoMove k) stands =
         elim (cases_lt k s) [
-          inl earlier ↦ (let onward = reach_from_left (record { states = states; moves = moves }) k (left k earlier) in absurd (stands.1 onward.0 onward.1)) | inr le ↦ inr (refl, le)
+          | inl earlier ↦ (let onward = reach_from_left (record { states = states; moves = moves }) k (left k earlier) in absurd (stands.1 onward.0 onward.1))
+          | inr le ↦ inr (refl, le)
         ]
     go Memory stands = absurd stands
 
