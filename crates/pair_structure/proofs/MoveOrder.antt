@@ -12,6 +12,7 @@ use Rattle.pair_structure.specs.declared.side.Side.{Side}
 use Rattle.pair_structure.specs.declared.side.Side.TheVariants.{A, B}
 use Rattle.pair_structure.specs.Structure.{IsBefore, IsRising}
 
+-- each element of a strictly sorted list is less than the next
 strict_adjacent : {K : Type 0} (c : K → K → Ordering) (xs : List K) → IsStrictlySortedBy c xs → AllAdjacentBelow (λ x y. c x y ≡ Less) xs (length xs)
 strict_adjacent c [] sorted k d lt = absurd (omega (arith, lt))
 strict_adjacent c (x ∷ xs) sorted zero d lt = All-after_first c x xs sorted 0 d (omega (arith, lt))

@@ -15,12 +15,14 @@ pub record HaveLeft (moves : List Move) (n next : ℕ) : Type 0 where
   pub left : (s : ℕ) → s < next → IsLeft moves s
   pub passed : (k : ℕ) → k < n → (move_at moves k).from < next
 
+-- one more move, from the next state
 pub HaveLeft-next : (moves : List Move) (n next : ℕ) → HaveLeft moves n next → n < length moves → (move_at moves n).from ≡ next → HaveLeft moves (n + 1) (next + 1)
 HaveLeft-next moves n next have lt is = record {
   left = below_more _ next have.left (n, move_at moves n, lt, get_or_default moves n (move_at moves n) _ lt, is);
   passed = below_more _ n (λ k before. omega (arith, have.passed k before)) (omega arith);
 }
 
+-- one more move, from a state that was left
 pub HaveLeft-again : (moves : List Move) (n next : ℕ) → HaveLeft moves n next → (move_at moves n).from < next → HaveLeft moves (n + 1) next
 HaveLeft-again moves n next have lt = record { left = have.left; passed = below_more _ n have.passed lt }
 
@@ -36,9 +38,11 @@ reach : (m : Structure) (side : Side) (s t : ℕ) → HasMove m side s t → Rea
 reach m A s t has = inl has
 reach m B s t has = inr has
 
+-- a move that leaves a state leads on from it
 pub reach_from_left : (m : Structure) (s : ℕ) → IsLeft m.moves s → (t : ℕ) × Reaches m s t
 reach_from_left m s (k, move, within, is, from) = (move.to, subst (λ s. Reaches m s move.to) from (reach m move.side move.from move.to (k, within, is)))
 
+-- a state that is led on from is left
 pub left_from_reach : (m : Structure) (s t : ℕ) → Reaches m s t → IsLeft m.moves s
 left_from_reach m s t reaches = elim reaches [
   | inl (k, within, is) ↦ (k, record { from = s; side = A; to = t }, within, is, refl)

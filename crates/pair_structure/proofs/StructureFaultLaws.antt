@@ -18,6 +18,7 @@ use Rattle.pair_structure.proofs.StatesLeft.{left_from_reach, reach_from_left}
 abbrev no_move : Move
 no_move = record { from = 0; side = A; to = 0 }
 
+-- a move that does not rise has one before it, and is not above it
 pub falls_at : (moves : List Move) (n : ℕ) → (RisesAt moves n → ⊥) → (before : ℕ) × (before + 1 ≡ n) × (IsBefore (move_at moves before) (move_at moves n) → ⊥)
 falls_at moves zero falls = absurd (falls (λ before is. absurd (omega (arith, is))))
 falls_at moves (suc before) falls = (
@@ -26,6 +27,7 @@ falls_at moves (suc before) falls = (
   λ is_before. falls (λ k is. let same : before ≡ k = omega (arith, is) in subst (λ k. IsBefore (move_at moves k) (move_at moves (suc before))) same is_before),
 )
 
+-- a state without a move is the first fault, where labels and moves are lawful and each lower state has one
 pub first_no_move : (a b : RoleParts) (states : List (ℕ × ℕ)) (moves : List Move) (s : ℕ) → AreLabelled a b states → AreMoves a b states moves
     → s < length states → (IsLeft moves s → ⊥) → ((k : ℕ) → k < s → IsLeft moves k) → IsFirstStructureFault a b states moves (NoMove s)
 first_no_move a b states moves s labelled lawful within none left = record { stands = (within, λ t reach. none (left_from_reach (record { states = states; moves = moves }) s t reach)); first = go }
@@ -45,6 +47,7 @@ first_no_move a b states moves s labelled lawful within none left = record { sta
         ]
     go Memory stands = absurd stands
 
+-- what is checked makes a structure
 pub IsPairStructure_from_checks : (a b : RoleParts) (states : List (ℕ × ℕ)) (moves : List Move) → AreLabelled a b states → AreMoves a b states moves → ((s : ℕ) → s < length states → IsLeft moves s)
     → IsPairStructure a b states moves
 IsPairStructure_from_checks a b states moves labelled lawful left = record {

@@ -92,10 +92,12 @@ fn move_fault(a: &Role, b: &Role, states: &[(u8, u8)], moves: &[Move]) -> Option
     }
 }
 
+/// The arcs, with the fact that both ends of each have a row in a table.
 fn small_arcs(role: &Role) -> &[LocalArc]
     ensures arcs { result.now ≡ role.now.arcs }
     ensures in_table { All IsInTable role.now.arcs }
 {
+    // `locals` tells that this is a role; `arcs` does not.
     let _locals = role.locals();
     role.arcs()
 }
