@@ -113,3 +113,42 @@ fn first_named<'a>(files: &'a [(String, Vec<u8>)], name: &str) -> Option<&'a [u8
     }
     None
 }
+
+#[cfg(test)]
+mod tests {
+    use super::*;
+    use std::test::Fail;
+
+    #[test]
+    fn answers_as_told(rt: HostRuntime) -> Result<(), Fail> {
+        let alloc = rt.alloc();
+        let mut files = Vec::new(alloc);
+        for (name, bytes) in [("spec", "three"), ("empty", ""), ("spec", "other")] {
+            files.push((
+                String::from_str(alloc, name)?,
+                Vec::from_slice(alloc, bytes.as_bytes())?,
+            ))?;
+        }
+        let mut shelf = MemoryShelf::new(files, vec![in alloc; 2, 4, 9]?);
+        let rows = [
+            ("spec", 5, Ok(()), "three", 0, 0),
+            ("spec", 4, Err(ShelfFault::Long), "", 0, 1),
+            ("spec", 4, Err(ShelfFault::Failed), "", 1, 1),
+            ("other", 5, Err(ShelfFault::Failed), "", 2, 1),
+            ("spec", 5, Err(ShelfFault::Failed), "", 3, 1),
+            ("spec", u64::MAX, Ok(()), "three", 3, 1),
+            ("empty", 0, Ok(()), "", 3, 1),
+        ];
+        for (name, max, answer, bytes, faults, longs) in rows {
+            let mut into = Vec::new(alloc);
+            assert_eq!(rt; shelf.take(name, max, &mut into), answer, "{name} {max}");
+            assert_eq!(rt; into.as_slice(), bytes.as_bytes(), "{name} {max}");
+            assert_eq!(rt;
+                (shelf.counts.faults, shelf.counts.longs),
+                (faults, longs),
+                "{name} {max}"
+            );
+        }
+        Ok(())
+    }
+}

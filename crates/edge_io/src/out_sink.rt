@@ -65,3 +65,53 @@ fn write_whole<W: Write>(out: &mut W, bytes: &[u8]) -> Result<(), SinkFault>
     }
     Ok(())
 }
+
+#[cfg(test)]
+mod tests {
+    use super::*;
+    use std::test::Fail;
+
+    #[test]
+    fn puts_a_text(rt: HostRuntime) {
+        let mut sink = OutSink::new(&rt);
+        assert_eq!(rt; sink.put(b"a short text\n"), Ok(()));
+        assert_eq!(rt; sink.faults, 0);
+    }
+
+    /// Takes two bytes a write up to its room, and then none.
+    #[derive(Drop)]
+    struct Narrow {
+        taken: Vec<u8>,
+        room: usize,
+    }
+
+    impl Write for Narrow {
+        fn write(&mut self, buf: &[u8]) -> io::Result<usize> {
+            let count = buf.len().min(2).min(self.room);
+            self.taken.extend_from_slice(&buf[..count])?;
+            self.room -= count;
+            Ok(count)
+        }
+
+        fn flush(&mut self) -> io::Result<()> {
+            Ok(())
+        }
+    }
+
+    #[test]
+    fn writes_to_the_end_or_fails(rt: HostRuntime) -> Result<(), Fail> {
+        for (room, answer, taken) in [
+            (5, Ok(()), "whole"),
+            (4, Err(SinkFault::Failed), "whol"),
+            (0, Err(SinkFault::Failed), ""),
+        ] {
+            let mut out = Narrow {
+                taken: Vec::new(rt.alloc()),
+                room,
+            };
+            assert_eq!(rt; write_whole(&mut out, b"whole"), answer, "{room}");
+            assert_eq!(rt; out.taken.as_slice(), taken.as_bytes(), "{room}");
+        }
+        Ok(())
+    }
+}
