@@ -6,7 +6,7 @@ use Rattle.edge_io.specs.declared.shelf.ShelfFault.{ShelfFault}
 use Rattle.edge_io.specs.Counts.{next_count, counts_after}
 use Rattle.edge_io.specs.Told.{file_named, HasLonger}
 
--- the files by name, the numbers of the calls that fail, how many calls were made, and the counts
+-- the files by name, which calls fail by their number, how many were made, and the counts
 pub record ShelfState : Type 0 where
   pub files : List (List ℕ × List ℕ)
   pub failing : List ℕ
@@ -17,7 +17,7 @@ pub record ShelfState : Type 0 where
 abbrev pub files_of : List (String Global × Vec ℕ Global) → List (List ℕ × List ℕ)
 files_of = map (λ file. (string_bytes file.0, file.1.items))
 
--- the next call fails: its number is one of the failing, or no file has the name
+-- the next call fails: its number is a failing one, or no file has the name
 abbrev pub Fails : ShelfState → List ℕ → Type 0
 Fails shelf name = Contains shelf.failing shelf.calls ⊎ IsNone (file_named shelf.files name)
 

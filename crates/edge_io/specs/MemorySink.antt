@@ -2,7 +2,8 @@
 use Rattle.std.specs.Prelude.{ℕ, ◌+◌, ◌<◌, ◌⊎◌, ◌++◌, List, length, Contains}
 use Rattle.edge_io.specs.Counts.{next_count}
 
--- the bytes so far, for how many there is room, the numbers of the puts that fail, how many puts were made, and the faults
+-- the bytes so far and for how many there is room, which puts fail by their number, how many were
+-- made, and how many of those failed
 pub record SinkState : Type 0 where
   pub bytes : List ℕ
   pub room : ℕ
@@ -10,7 +11,7 @@ pub record SinkState : Type 0 where
   pub puts : ℕ
   pub faults : ℕ
 
--- the next put of this piece fails: its number is one of the failing, or the piece would go past the room
+-- the next put of this piece fails: its number is a failing one, or the piece would go past the room
 abbrev pub Refuses : SinkState → List ℕ → Type 0
 Refuses sink piece = Contains sink.failing sink.puts ⊎ (sink.room < length sink.bytes + length piece)
 

@@ -8,10 +8,11 @@ use std::io::Read;
 use std::marker::Model;
 use std::rt::Files;
 
-/// How many bytes one read may bring.
+/// How many bytes one read may bring. They lie on the stack.
 const PIECE: usize = 16_384;
 
-/// The real files, by their paths. It tells no content.
+/// The real files, by their paths. It tells no content, and takes no memory beside what it fills.
+/// A folder, or a file that is not there, is Failed.
 #[derive(Drop)]
 pub struct FileShelf<'a, R: Files> {
     rt: &'a R,
@@ -77,13 +78,14 @@ impl<R: Files> Shelf for FileShelf<'_, R> {
     }
 }
 
-/// Reads to the end, or until `max + 1` bytes have come. After a fault `into` has what came before it.
+/// Reads to the end, or until more than `max` bytes have come. After a fault `into` has some of them.
 fn read_whole<F: Read>(file: &mut F, max: u64, into: &mut Vec<u8>) -> Result<(), ShelfFault>
     requires { into.old.items ≡ [] }
 
     ensures whole { OnOk result (IfSome (F.remaining file.old) (λ bytes. into.new.items ≡ bytes)) }
     ensures within { OnOk result (length into.new.items ≤ max) }
-    ensures long { IsErrOf result ShelfFault.Long → IfSome (F.remaining file.old) (λ bytes. max < length bytes) }
+    ensures long { IsErrOf result ShelfFault.Long →
+        IfSome (F.remaining file.old) (λ bytes. max < length bytes) }
 {
     let mut piece = [0u8; PIECE];
     loop {

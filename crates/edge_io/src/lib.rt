@@ -1,4 +1,4 @@
-//! Where the program's texts come from and go to: shelves and sinks, in memory and over real files and output.
+//! Where texts come from and go to: shelves and sinks, in memory and over real files and output.
 #![tactic(auto)]
 
 mod counts;

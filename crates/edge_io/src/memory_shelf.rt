@@ -8,7 +8,8 @@ use crate::counts::ShelfCounts;
 use crate::{Shelf, ShelfFault};
 use std::marker::Model;
 
-/// Files in memory, for tests: the calls of these numbers fail, counted from 0, and so does each of an unknown name.
+/// Files in memory, for tests. The calls whose numbers are `failing`, counted from 0, answer Failed,
+/// and so does each call with an unknown name.
 #[derive(Drop)]
 pub struct MemoryShelf {
     files: Vec<(String, Vec<u8>)>,

@@ -5,7 +5,8 @@ use crate::{Sink, SinkFault};
 use std::alloc::{AllocError, Global};
 use std::marker::Model;
 
-/// A sink in memory, for tests: the puts of these numbers fail, counted from 0, and each that would go past its room.
+/// A sink in memory, for tests. The puts whose numbers are `failing`, counted from 0, fail,
+/// and so does each whose piece would go past `room` bytes. A put that fails appends nothing.
 #[derive(Drop)]
 pub struct MemorySink {
     bytes: Vec<u8>,

@@ -7,7 +7,7 @@ use std::io;
 use std::io::Write;
 use std::marker::Model;
 
-/// The standard output. It tells no content, and keeps no bytes back.
+/// The standard output. It tells no content, keeps no bytes back, and takes no memory.
 #[derive(Drop)]
 pub struct OutSink<'a, R: Print> {
     rt: &'a R,
@@ -54,7 +54,8 @@ impl<R: Print> Sink for OutSink<'_, R> {
 /// Writes all bytes, or some of the first and fails. A write that takes none is a fault.
 fn write_whole<W: Write>(out: &mut W, bytes: &[u8]) -> Result<(), SinkFault>
     ensures whole { OnOk result (Appends (W.contents out.old) (W.contents out.new) bytes.now) }
-    ensures part { OnErr result ((n : ℕ) × Appends (W.contents out.old) (W.contents out.new) (take n bytes.now)) }
+    ensures part { OnErr result
+        ((n : ℕ) × Appends (W.contents out.old) (W.contents out.new) (take n bytes.now)) }
 {
     let mut left = bytes;
     while !left.is_empty() {

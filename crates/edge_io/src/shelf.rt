@@ -4,15 +4,16 @@ ghost use Rattle.edge_io.specs.Told.{file_named, HasLonger};
 
 use thiserror::Error;
 
-/// Why a file was not handed out.
+/// Why a file was not handed out. What was asked for is then as empty as it was.
 #[derive(Clone, Copy, Debug, PartialEq, Eq, Error)]
 pub enum ShelfFault {
-    /// The file could not be opened or read to its end.
+    /// The shelf failed: the file cannot be opened, or not be read to its end.
     #[error("the file cannot be read")]
     Failed,
-    /// The file has more bytes than were asked for.
+    /// The file has more than `max` bytes.
     #[error("the file is too long")]
     Long,
+    /// There was no memory for its bytes. No count rises.
     #[error("out of memory")]
     Memory,
 }
@@ -36,7 +37,8 @@ pub trait Shelf {
         requires empty { into.old.items ≡ [] }
         requires allowed { may_ask self.old name.now max }
 
-        ensures told { IfSome (files self.old) (λ all. OnOk result (file_named all name.now ≡ Some into.new.items)) }
+        ensures told { IfSome (files self.old)
+            (λ all. OnOk result (file_named all name.now ≡ Some into.new.items)) }
         ensures within { OnOk result (length into.new.items ≤ max) }
         ensures nothing { OnErr result (into.new.items ≡ []) }
 
@@ -44,9 +46,11 @@ pub trait Shelf {
         ensures failed { IsErrOf result ShelfFault.Failed → Rose (faults self.old) (faults self.new) }
         ensures long { IsErrOf result ShelfFault.Long → Rose (longs self.old) (longs self.new) }
 
-        // A told file that is not longer is never called too long, and one that is longer is never handed out.
-        ensures long_only { IfSome (files self.old) (λ all. IsErrOf result ShelfFault.Long → HasLonger all name.now max) }
-        ensures long_never { IfSome (files self.old) (λ all. HasLonger all name.now max → IsErr result) }
+        // A told file is called too long only where it is, and then it is never handed out.
+        ensures long_only { IfSome (files self.old)
+            (λ all. IsErrOf result ShelfFault.Long → HasLonger all name.now max) }
+        ensures long_never { IfSome (files self.old)
+            (λ all. HasLonger all name.now max → IsErr result) }
 
         // No call changes what is told or what may be asked, and no count falls.
         ensures same_files { files self.new ≡ files self.old }

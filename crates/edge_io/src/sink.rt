@@ -7,11 +7,12 @@ use thiserror::Error;
 /// Why a piece was not taken whole.
 #[derive(Clone, Copy, Debug, PartialEq, Eq, Error)]
 pub enum SinkFault {
+    /// The sink failed. Of the piece the first bytes, maybe none, were appended.
     #[error("the output cannot be written")]
     Failed,
 }
 
-/// Takes bytes, in order.
+/// Takes the bytes of a text, piece by piece.
 pub trait Sink {
     /// The bytes so far, where they are told.
     ghost written: { Self → Option (List ℕ) };
