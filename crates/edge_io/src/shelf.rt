@@ -4,16 +4,16 @@ ghost use Rattle.edge_io.specs.Told.{file_named, HasLonger};
 
 use thiserror::Error;
 
-/// Why a file was not handed out. What was asked for is then as empty as it was.
+/// Why a file was not handed out.
 #[derive(Clone, Copy, Debug, PartialEq, Eq, Error)]
 pub enum ShelfFault {
-    /// The shelf failed: the file cannot be opened, or not be read to its end.
+    /// The shelf failed: the file could not be opened, or not be read to its end.
     #[error("the file cannot be read")]
     Failed,
     /// The file has more than `max` bytes.
     #[error("the file is too long")]
     Long,
-    /// There was no memory for its bytes. No count rises.
+    /// There was no memory for its bytes.
     #[error("out of memory")]
     Memory,
 }
