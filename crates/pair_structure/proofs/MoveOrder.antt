@@ -1,66 +1,39 @@
--- The derived order of moves is the order of their definition, and its equality is equality.
-use Rattle.std.proofs.Common.{◌≡◌, ◌<◌, ◌⊎◌, ◌==◌, ◌&&◌, inl, inr, ℕ, Bool, true, false, List, [], ◌∷◌, ◌+◌, zero, suc, length, get_or, arith, refl, sym, ap, ◌∙◌, subst}
-use Rattle.std.proofs.lemmas.Bool.{eqb-true}
-use Rattle.std.specs.declared.cmp.Ordering.{Ordering}
-use Rattle.std.specs.declared.cmp.Ordering.TheVariants.{Less, Equal, Greater}
-use Rattle.std.specs.Ordering.{nat_cmp, ordering_then}
-use Rattle.std.specs.Cmp.{nat_cmp_is}
-use Rattle.std.specs.List.{AllByRecursion}
+-- The order by which moves are sorted, against that in which they rise.
+use Rattle.std.proofs.Common.{ℕ, zero, suc, ◌≡◌, ◌<◌, ◌+◌, [], ◌∷◌, List, length, get_or, arith, add-one, inl, inr, refl, true, Ordering, Less}
+use Rattle.std.specs.List.{AllAdjacentBelow}
 use Rattle.std.specs.List.Sorted.{IsStrictlySortedBy}
+use Rattle.std.proofs.lemmas.Bool.Decides.{nat_tests}
+use Rattle.std.proofs.lemmas.Map.Keys.{sorted_tail}
+use Rattle.std.proofs.lemmas.Map.Views.{All-after_first}
+use Rattle.pair_structure.specs.contracts.side.MoveOrd.TheImpl as move_ord
+use Rattle.pair_structure.specs.contracts.side.MovePartialEq.TheImpl as move_eq
+use Rattle.pair_structure.specs.declared.side.Move.{Move}
 use Rattle.pair_structure.specs.declared.side.Side.{Side}
 use Rattle.pair_structure.specs.declared.side.Side.TheVariants.{A, B}
-use Rattle.pair_structure.specs.declared.side.Move.{Move}
-use Rattle.pair_structure.specs.contracts.side.MoveOrd.TheImpl.{cmp-value}
-use Rattle.pair_structure.specs.contracts.side.MovePartialEq.TheImpl.{eq-value}
-use Rattle.pair_structure.specs.Structure.{IsBefore, side_number}
+use Rattle.pair_structure.specs.Structure.{IsBefore, IsRising}
 
-order_of : (m n : ℕ) → (m < n) ⊎ ((m ≡ n) ⊎ (n < m))
-order_of m n = grind arith
+strict_adjacent : {K : Type 0} (c : K → K → Ordering) (xs : List K) → IsStrictlySortedBy c xs → AllAdjacentBelow (λ x y. c x y ≡ Less) xs (length xs)
+strict_adjacent c [] sorted k d lt = absurd (omega (arith, lt))
+strict_adjacent c (x ∷ xs) sorted zero d lt = All-after_first c x xs sorted 0 d (omega (arith, lt))
+strict_adjacent c (x ∷ xs) sorted (suc k) d lt = rw (add-one (suc k), ← add-one k) (strict_adjacent c xs (sorted_tail c x xs sorted) k d (omega (arith, lt)))
 
-below_if_less : (m n : ℕ) → nat_cmp m n ≡ Less → m < n
-below_if_less m n h = elim (order_of m n) [
-  | inl lt ↦ lt
-  | inr rest ↦ elim rest [ inl e ↦ (let is = nat_cmp_is m n Equal e in cc) | inr gt ↦ (let is = nat_cmp_is m n Greater gt in cc) ]
-]
+abbrev move_of : ℕ → Side → ℕ → Move
+move_of from side to = record { from = from; side = side; to = to }
 
-same_if_equal : (m n : ℕ) → nat_cmp m n ≡ Equal → m ≡ n
-same_if_equal m n h = elim (order_of m n) [
-  | inl lt ↦ (let is = nat_cmp_is m n Less lt in cc)
-  | inr rest ↦ elim rest [ inl e ↦ e | inr gt ↦ (let is = nat_cmp_is m n Greater gt in cc) ]
-]
+before_from_less : (from to from' to' : ℕ) (side side' : Side) → (move_ord.ghosts).cmp (move_of from side to) (move_of from' side' to') ≡ Less → IsBefore (move_of from side to) (move_of from' side' to')
+before_from_less from to from' to' A A less = grind (arith, nat_tests)
+before_from_less from to from' to' A B less = grind (arith, nat_tests)
+before_from_less from to from' to' B A less = grind (arith, nat_tests)
+before_from_less from to from' to' B B less = grind (arith, nat_tests)
 
-first_decides : (o p : Ordering) → ordering_then o p ≡ Less → (o ≡ Less) ⊎ ((o ≡ Equal) × (p ≡ Less))
-first_decides Less p h = inl refl
-first_decides Equal p h = inr (refl, h)
-first_decides Greater p h = cc
+same_from_equal : (from to from' to' : ℕ) (side side' : Side) → (move_eq.ghosts).eq (move_of from side to) (move_of from' side' to') ≡ true → move_of from side to ≡ move_of from' side' to'
+same_from_equal from to from' to' A A same = grind (arith, nat_tests)
+same_from_equal from to from' to' A B same = grind (arith, nat_tests)
+same_from_equal from to from' to' B A same = grind (arith, nat_tests)
+same_from_equal from to from' to' B B same = grind (arith, nat_tests)
 
-before_by : (f t f' t' : ℕ) (s s' : Side) → cmp-value.it (record { from = f; side = s; to = t }) (record { from = f'; side = s'; to = t' }) ≡ Less → IsBefore (record { from = f; side = s; to = t }) (record { from = f'; side = s'; to = t' })
-before_by f t f' t' A A h = elim (first_decides (nat_cmp f f') (nat_cmp t t') h) [ inl lt ↦ inl (below_if_less f f' lt) | inr tie ↦ inr (same_if_equal f f' tie.0, inr (refl, below_if_less t t' tie.1)) ]
-before_by f t f' t' A B h = elim (first_decides (nat_cmp f f') Less h) [ inl lt ↦ inl (below_if_less f f' lt) | inr tie ↦ inr (same_if_equal f f' tie.0, inl (omega arith)) ]
-before_by f t f' t' B A h = elim (first_decides (nat_cmp f f') Greater h) [ inl lt ↦ inl (below_if_less f f' lt) | inr tie ↦ (let no = tie.1 in cc) ]
-before_by f t f' t' B B h = elim (first_decides (nat_cmp f f') (nat_cmp t t') h) [ inl lt ↦ inl (below_if_less f f' lt) | inr tie ↦ inr (same_if_equal f f' tie.0, inr (refl, below_if_less t t' tie.1)) ]
+pub IsSame-from_equal : (x y : Move) → (move_eq.ghosts).eq x y ≡ true → x ≡ y
+IsSame-from_equal x y = same_from_equal x.from x.to y.from y.to x.side y.side
 
-pub before_if_less : (x y : Move) → cmp-value.it x y ≡ Less → IsBefore x y
-before_if_less x y h = before_by x.from x.to y.from y.to x.side y.side h
-
--- in a list that is strictly sorted each element is below the next
-pub sorted_adjacent : {X : Type 0} (c : X → X → Ordering) (xs : List X) → IsStrictlySortedBy c xs → (k : ℕ) (d : X) → k + 1 < length xs → c (get_or xs k d) (get_or xs (k + 1) d) ≡ Less
-unfolding IsStrictlySortedBy
-sorted_adjacent c [] sorted k d lt = absurd (omega (arith, lt))
-sorted_adjacent c (x ∷ []) sorted k d lt = absurd (omega (arith, lt))
-sorted_adjacent c (x ∷ (y ∷ xs)) sorted zero d lt = sorted.0.0
-sorted_adjacent {X} c (x ∷ (y ∷ xs)) sorted (suc k) d lt = let e : suc (k + 1) ≡ suc k + 1 = omega arith in
-    subst (λ n. c (get_or (y ∷ xs) k d) (get_or (x ∷ (y ∷ xs)) n d) ≡ Less) e (sorted_adjacent c (y ∷ xs) sorted.1 k d (omega (arith, lt)))
-
-both_parts : (s t : Bool) → (s && t) ≡ true → (s ≡ true) × (t ≡ true)
-both_parts true t e = (refl, e)
-both_parts false t e = cc
-
-same_by : (f t f' t' : ℕ) (s s' : Side) → eq-value.it (record { from = f; side = s; to = t }) (record { from = f'; side = s'; to = t' }) ≡ true → ◌≡◌ {A = Move} (record { from = f; side = s; to = t }) (record { from = f'; side = s'; to = t' })
-same_by f t f' t' A A h = let p = both_parts _ _ h in let from = eqb-true f f' p.0 in let to = eqb-true t t' p.1 in cc
-same_by f t f' t' A B h = let no : false ≡ true = (both_parts (f == f') false h).1 in cc
-same_by f t f' t' B A h = let no : false ≡ true = (both_parts (f == f') false h).1 in cc
-same_by f t f' t' B B h = let p = both_parts _ _ h in let from = eqb-true f f' p.0 in let to = eqb-true t t' p.1 in cc
-
-pub same_if_eq : (x y : Move) → eq-value.it x y ≡ true → x ≡ y
-same_if_eq x y h = same_by x.from x.to y.from y.to x.side y.side h
+pub IsRising-from_sorted : (moves : List Move) → IsStrictlySortedBy (move_ord.ghosts).cmp moves → IsRising moves
+IsRising-from_sorted moves sorted k d lt = before_from_less _ _ _ _ _ _ (strict_adjacent (move_ord.ghosts).cmp moves sorted k d lt)
