@@ -1,6 +1,6 @@
--- A form as a list of numbers, so that a `Model` may have forms in its value.
+-- A formula's tree as a list of numbers and back, which a `Model` with trees in its value has to show. No clause speaks of it.
 use Rattle.std.specs.Prelude.{ℕ, zero, suc, ◌≡◌, ◌+◌, ◌≤◌, Bool, true, false, Option, Some, None, List, [], ◌∷◌, ◌++◌, refl}
-use Rattle.std.proofs.Common.{length, length-append, subst, ap, ◌∙◌, arith, append_assoc, append-nil, sym}
+use Rattle.std.proofs.Common.{length, length-append, subst, ap, arith, append_assoc, append-nil}
 use Rattle.std.specs.Coded.{Coded, code_by, coded_list, coded_ℕ}
 use Rattle.pair_structure.specs.declared.side.Side.{Side}
 use Rattle.pair_structure.specs.declared.side.Side.TheVariants.{A, B}

@@ -1,14 +1,19 @@
-//! Formulas of CTL over a pair, and their truth.
+//! Formulas of CTL over the two processes of a pair: what they say of a structure, and what a kind of pairs asks.
 #![tactic(auto)]
 
+mod clauses;
 mod conjuncts;
-mod copier;
 mod formula;
-mod kind;
 mod laws;
+mod pair_spec;
+#[cfg(test)]
+mod samples;
 
+pub use clauses::Clauses;
 pub use conjuncts::whole;
-pub use copier::copy;
 pub use formula::Formula;
-pub use kind::{Clauses, PairSpec};
-pub use laws::always_goes_on;
+pub use laws::{
+    always_expands, always_goes_on, each_unless_expands, each_until_expands, normal_means,
+    some_unless_expands, some_until_expands, sometime_expands, truth_is_decided, until_expands,
+};
+pub use pair_spec::PairSpec;
