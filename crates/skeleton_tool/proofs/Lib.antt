@@ -9,3 +9,6 @@ pub mod Moved
 pub mod Built
 pub mod AllMoves
 pub mod Meaning
+pub mod Roles
+pub mod Solved
+pub mod NarrowKinds

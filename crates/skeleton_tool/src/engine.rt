@@ -6,5 +6,5 @@ mod numbering;
 mod prune;
 mod solve;
 
-pub(crate) use label::is_proposition;
+pub(crate) use label::is_plain;
 pub(crate) use solve::solve;

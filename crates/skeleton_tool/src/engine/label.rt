@@ -1,7 +1,7 @@
 ghost use Rattle.std.specs.Prelude.{◌≡◌, ◌↔◌, ◌⊎◌, ◌<◌, ◌≤◌, ℕ, IsTrue, IfOk, OnOk, Contains, slice_index_or, true, false};
 ghost use Rattle.ctl_form.specs.Form.{form_of};
 ghost use Rattle.skeleton_tool.specs.Labels.{keeps, Keeps};
-ghost use Rattle.skeleton_tool.specs.Proposition.{is_proposition, is_true_at, allows, AllowAll};
+ghost use Rattle.skeleton_tool.specs.Proposition.{is_proposition, is_plain, is_true_at, allows, AllowAll};
 
 use ctl_form::Formula;
 use pair_structure::{Memory, Side};
@@ -11,7 +11,7 @@ use std::alloc::Global;
 pub(crate) type Table = [[bool; 32]; 32];
 
 /// Whether a formula has no operator on moves or paths.
-pub(crate) fn is_proposition(f: &Formula) -> bool
+fn is_proposition(f: &Formula) -> bool
     ensures { result ≡ is_proposition (form_of f.now) }
 {
     match f {
@@ -20,6 +20,16 @@ pub(crate) fn is_proposition(f: &Formula) -> bool
         Formula::And(f, g) | Formula::Or(f, g) | Formula::Implies(f, g) => {
             is_proposition(f) && is_proposition(g)
         }
+        _ => false,
+    }
+}
+
+/// Whether a clause is AG of a proposition.
+pub(crate) fn is_plain(clause: &Formula) -> bool
+    ensures { result ≡ is_plain (form_of clause.now) }
+{
+    match clause {
+        Formula::Always { all: true, f } => is_proposition(f),
         _ => false,
     }
 }
