@@ -1,5 +1,5 @@
 -- Marks in rows, and the arcs that they stand for.
-use Rattle.std.proofs.Common.{ℕ, ◌≡◌, ◌<◌, ◌+◌, ◌||◌, ◌&&◌, ◌==◌, ◌⊎◌, ◌↔◌, Bool, true, false, IsTrue, List, [], ◌∷◌, length, get_or, set, take, arith, inl, inr, subst, replicate}
+use Rattle.std.proofs.Common.{ℕ, ◌≡◌, ◌<◌, ◌+◌, ◌⊎◌, ◌↔◌, Bool, true, false, IsTrue, List, length, get_or, take, arith, inl, inr, subst, replicate}
 use Rattle.std.proofs.lemmas.Bool.{cases_eq}
 use Rattle.std.proofs.lemmas.Grind.{common_steps}
 use Rattle.pair_structure.specs.declared.side.LocalArc.{LocalArc}

@@ -1,5 +1,5 @@
 -- A filter that passes the middle of a list.
-use Rattle.std.proofs.Common.{ℕ, zero, suc, ◌≡◌, ◌<◌, ◌≤◌, ◌+◌, ◌-◌, ◌++◌, ◌∷◌, [], Bool, true, false, cond, List, length, get_or, take, drop, arith, ap, sym, ◌∙◌, refl, subst, filter, append-nil}
+use Rattle.std.proofs.Common.{ℕ, ◌≡◌, ◌<◌, ◌+◌, ◌++◌, ◌∷◌, [], Bool, true, false, List, length, take, drop, arith, ap, sym, refl, subst, filter, append-nil}
 use Rattle.std.specs.List.{All, AllWithin}
 use Rattle.std.proofs.lemmas.List.{take-append-drop, get_or-drop, get_or-take, length-take, length-drop}
 use Rattle.std.proofs.lemmas.List.Elements.{filter-append, All-head, All-tail}

@@ -1,5 +1,5 @@
 -- The order by which moves are sorted, against that in which they rise.
-use Rattle.std.proofs.Common.{ℕ, zero, suc, ◌≡◌, ◌<◌, ◌+◌, [], ◌∷◌, List, length, get_or, arith, add-one, inl, inr, refl, true, Ordering, Less}
+use Rattle.std.proofs.Common.{ℕ, zero, suc, ◌≡◌, [], ◌∷◌, List, length, arith, add-one, true, Ordering, Less}
 use Rattle.std.specs.List.{AllAdjacentBelow}
 use Rattle.std.specs.List.Sorted.{IsStrictlySortedBy}
 use Rattle.std.proofs.lemmas.Bool.Decides.{nat_tests}

@@ -1,7 +1,6 @@
 -- Ordinals, and the lists of the states of each label.
-use Rattle.std.proofs.Common.{ℕ, ◌≡◌, ◌<◌, ◌≤◌, ◌+◌, ◌++◌, ◌∷◌, ◌&&◌, Bool, true, false, [], List, length, get_or, take, arith, below_more, inl, inr, refl, sym, ap, ◌∙◌, subst, length-append, count_by, cond}
+use Rattle.std.proofs.Common.{ℕ, ◌≡◌, ◌<◌, ◌≤◌, ◌+◌, ◌++◌, ◌∷◌, Bool, true, false, [], List, length, arith, below_more, inl, inr, refl, sym, ◌∙◌, subst, length-append, count_by, cond}
 use Rattle.std.proofs.lemmas.Bool.{cases_eq, cases_lt}
-use Rattle.std.proofs.lemmas.Grind.{common_steps}
 use Rattle.std.proofs.lemmas.List.{get_or_append_left, get_or_push}
 use Rattle.std.proofs.lemmas.List.Sums.{count_by_more_yes, count_by_more_no, sum_by-take-le}
 use Rattle.std.proofs.Math.Seq.{take-length}

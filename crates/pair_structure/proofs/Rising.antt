@@ -1,5 +1,5 @@
 -- Moves that rise.
-use Rattle.std.proofs.Common.{ℕ, ◌≡◌, ◌<◌, ◌≤◌, ◌+◌, List, length, get_or, arith, inl, inr, ap}
+use Rattle.std.proofs.Common.{ℕ, ◌<◌, ◌≤◌, ◌+◌, List, length, get_or, arith, inl, inr, ap}
 use Rattle.std.specs.List.Sorted.{IsNonDecreasingBy}
 use Rattle.std.proofs.lemmas.List.{get_or_default}
 use Rattle.std.proofs.lemmas.List.Sorted.{IsNonDecreasingBy-from_all_adjacent}
@@ -8,7 +8,6 @@ use Rattle.pair_structure.specs.declared.side.Side.TheVariants.{A, B}
 use Rattle.pair_structure.specs.declared.side.Side.{Side}
 use Rattle.pair_structure.specs.Structure.{IsRising, IsBefore, side_number}
 use Rattle.pair_structure.specs.StructureCheck.{RisesAt}
-use Rattle.pair_structure.specs.StructureFault.{move_at}
 use Rattle.pair_structure.specs.Turn.{turn}
 
 from_stays : (x y : Move) → IsBefore x y → x.from ≤ y.from

@@ -1,5 +1,5 @@
 -- Which states the moves leave: as rising moves are read one after another, and against the moves of a structure.
-use Rattle.std.proofs.Common.{ℕ, ◌≡◌, ◌<◌, ◌≤◌, ◌+◌, ◌⊎◌, List, length, get_or, arith, below_more, inl, inr, subst, refl}
+use Rattle.std.proofs.Common.{ℕ, ◌≡◌, ◌<◌, ◌+◌, List, length, arith, below_more, inl, inr, subst, refl}
 use Rattle.std.proofs.lemmas.Bool.{cases_lt}
 use Rattle.std.proofs.lemmas.List.{get_or_default}
 use Rattle.pair_structure.specs.declared.side.Move.{Move}

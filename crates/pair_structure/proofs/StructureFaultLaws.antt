@@ -1,5 +1,5 @@
 -- Which fault of states and moves is the first, and that without one they are a structure.
-use Rattle.std.proofs.Common.{ℕ, zero, suc, ◌≡◌, ◌<◌, ◌≤◌, ◌+◌, ◌⊎◌, List, length, get_or, arith, subst, ap, ◌∙◌, Some, inl, inr, refl, lit<}
+use Rattle.std.proofs.Common.{ℕ, zero, suc, ◌≡◌, ◌<◌, ◌+◌, List, length, arith, subst, ap, ◌∙◌, Some, inl, inr, refl}
 use Rattle.std.proofs.lemmas.Bool.{cases_lt}
 use Rattle.std.proofs.lemmas.List.{get_or_default}
 use Rattle.std.proofs.lemmas.Option.{slice_get-get_or, slice_get_within, get_or_from_slice_get}
@@ -10,7 +10,7 @@ use Rattle.pair_structure.specs.declared.structure_fault.StructureFault.TheVaria
 use Rattle.pair_structure.specs.First.{ComesFirst}
 use Rattle.pair_structure.specs.Role.{RoleParts}
 use Rattle.pair_structure.specs.Structure.{IsBefore, IsLawfulMove, IsPairStructure}
-use Rattle.pair_structure.specs.StructureCheck.{AreLabelled, AreMoves, IsInRange, FollowsArc, KeepsOther, RisesAt, IsLeft}
+use Rattle.pair_structure.specs.StructureCheck.{AreLabelled, AreMoves, RisesAt, IsLeft}
 use Rattle.pair_structure.specs.StructureFault.{Stands, kind_of, place_of, move_at, IsFirstStructureFault}
 use Rattle.pair_structure.proofs.Rising.{IsRising-from_each}
 use Rattle.pair_structure.proofs.StatesLeft.{left_from_reach, reach_from_left}

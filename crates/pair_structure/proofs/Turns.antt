@@ -1,12 +1,12 @@
 -- The moves of a side from a state, by their turn.
-use Rattle.std.proofs.Common.{ℕ, ◌≡◌, ◌<◌, ◌≤◌, ◌+◌, ◌==◌, Bool, true, false, List, length, get_or, take, drop, arith, filter, sym, ◌∙◌, subst, eqb, ne_eqb, eq-eqb}
+use Rattle.std.proofs.Common.{ℕ, ◌≡◌, ◌<◌, ◌≤◌, ◌+◌, ◌==◌, true, false, List, length, get_or, take, drop, arith, filter, sym, ◌∙◌, ne_eqb, eq-eqb}
 use Rattle.std.proofs.lemmas.Bool.Decides.{nat_tests}
 use Rattle.std.proofs.lemmas.List.{get_or-drop, length-drop}
 use Rattle.std.specs.List.Sorted.{IsPartitionPoint}
 use Rattle.pair_structure.specs.declared.side.Move.{Move}
 use Rattle.pair_structure.specs.declared.side.Side.{Side}
 use Rattle.pair_structure.specs.declared.side.Side.TheVariants.{A, B}
-use Rattle.pair_structure.specs.Ordinal.{leaves, is_same_side}
+use Rattle.pair_structure.specs.Ordinal.{leaves}
 use Rattle.pair_structure.specs.Turn.{turn}
 use Rattle.pair_structure.proofs.Middle.{take_is_filter}
 

@@ -1,5 +1,5 @@
 -- Which local states arcs join, as rows of marks.
-use Rattle.std.specs.Prelude.{ℕ, ◌<◌, ◌↔◌, Bool, false, IsTrue, List, [], All, slice_index_or}
+use Rattle.std.specs.Prelude.{ℕ, ◌<◌, ◌↔◌, Bool, false, IsTrue, List, [], slice_index_or}
 use Rattle.pair_structure.specs.declared.side.LocalArc.{LocalArc}
 use Rattle.pair_structure.specs.Role.{HasArc}
 

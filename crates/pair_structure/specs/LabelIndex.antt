@@ -1,5 +1,5 @@
 -- How a structure finds states by their labels: the states of each label in one list, rising.
-use Rattle.std.specs.Prelude.{ℕ, ◌≡◌, ◌<◌, ◌==◌, ◌&&◌, if◌then◌else◌, ◌++◌, ◌∷◌, Bool, List, [], length, count_by, take, slice_index, slice_index_or}
+use Rattle.std.specs.Prelude.{ℕ, ◌≡◌, ◌<◌, List, [], length, count_by, take, slice_index, slice_index_or}
 use Rattle.pair_structure.specs.Ordinal.{is_same_label, ordinal_of, IsStateAt}
 
 -- the list in row a at b; outside the rows it is empty

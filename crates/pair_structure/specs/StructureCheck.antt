@@ -3,7 +3,7 @@ use Rattle.std.specs.Prelude.{ℕ, ◌≡◌, ◌<◌, ◌+◌, List, length, An
 use Rattle.pair_structure.specs.declared.side.LocalArc.{LocalArc}
 use Rattle.pair_structure.specs.declared.side.Move.{Move}
 use Rattle.pair_structure.specs.Role.{RoleParts}
-use Rattle.pair_structure.specs.Structure.{label_at, IsLabel, TakesArc, OtherStays, IsBefore}
+use Rattle.pair_structure.specs.Structure.{label_at, TakesArc, OtherStays, IsBefore}
 use Rattle.pair_structure.specs.StructureFault.{move_at, label_from, label_to}
 
 -- the label of the state is within so many local states of each side

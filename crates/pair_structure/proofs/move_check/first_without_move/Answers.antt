@@ -1,4 +1,4 @@
-use Rattle.std.proofs.Common.{◌<◌, arith}
+use Rattle.std.proofs.Common.{arith}
 use Rattle.pair_structure.proofs.StatesLeft.{HaveLeft-next, HaveLeft-again, passed_over}
 use Rattle.pair_structure.proofs.move_check.first_without_move.Goals as goal
 use Rattle.pair_structure.proofs.move_check.first_without_move.Goals.{then-m-next-2, else-m-next-2}

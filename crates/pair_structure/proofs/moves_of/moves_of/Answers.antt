@@ -1,6 +1,5 @@
-use Rattle.std.proofs.Common.{◌≡◌, ◌-◌, arith, length, take, drop, sym, subst}
+use Rattle.std.proofs.Common.{◌≡◌, ◌-◌, arith, length, take, drop}
 use Rattle.std.proofs.lemmas.List.{take_all, length-drop}
-use Rattle.pair_structure.specs.declared.side.Move.{Move}
 use Rattle.pair_structure.proofs.Turns.{take_is_moves_of}
 use Rattle.pair_structure.proofs.moves_of.moves_of.Goals as goal
 
