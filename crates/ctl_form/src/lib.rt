@@ -1,14 +1,19 @@
 //! Formulas of CTL over the two processes of a pair: what they say of a structure, and what a kind of pairs asks.
 #![tactic(auto)]
 
+mod bit_row;
 mod clauses;
 mod conjuncts;
+mod cursors;
 mod formula;
 mod laws;
 mod pair_spec;
+mod predecessors;
+mod until_row;
 #[cfg(test)]
 mod samples;
 
+pub use bit_row::BitRow;
 pub use clauses::Clauses;
 pub use conjuncts::whole;
 pub use formula::Formula;
