@@ -14,48 +14,19 @@ use Rattle.ctl_form.specs.Row.{IsAt, IsRowOf}
 use Rattle.ctl_form.specs.Spread.{EachLeads, IsAdmitted, Visits, IsMarkList, Anyhow, SeenBefore, IsUsed, IsSpread}
 use Rattle.ctl_form.specs.Truth.{AlongPaths}
 use Rattle.ctl_form.proofs.Decided.{Decided}
+use Rattle.ctl_form.proofs.AllOf.{All-front, All-one}
 use Rattle.ctl_form.proofs.MovePlaces.{move_of, reaches_by}
 use Rattle.ctl_form.proofs.Moves.{reaches_within, reaches_from, after_map}
 use Rattle.ctl_form.proofs.Rounds.{AreDecided, Stage}
+use Rattle.ctl_form.proofs.Rows.{decided_at, false_of, IsAt-set_same, IsAt-set_keeps, IsAt-set_back}
 use Rattle.ctl_form.proofs.Unfold.{unfolds, labelled}
 
 -- what the worklist has still to do: each state may be marked and put on it once more
 abbrev pub left_to_do : List Bool → List ℕ → ℕ
 left_to_do row work = count_by not row + (count_by not row + length work)
 
-decided_value : (b : Bool) → Decided (b ≡ true)
-decided_value true = inl refl
-decided_value false = inr (λ e. let f : false ≡ true = e in cc)
-
-false_of : (b : Bool) → (b ≡ true → ⊥) → b ≡ false
-false_of true none = absurd (none refl)
-false_of false none = refl
-
-pub decided_at : (row : List Bool) (s : ℕ) → Decided (IsAt row s)
-decided_at row s = decided_value (slice_index_or row s false)
-
-rows_decided : (m : Structure) (p q : List Bool) → AreDecided m (IsAt p) (IsAt q)
+pub rows_decided : (m : Structure) (p q : List Bool) → AreDecided m (IsAt p) (IsAt q)
 rows_decided m p q = record { first = λ t _. decided_at p t; second = λ t _. decided_at q t }
-
--- a row with one more mark
-IsAt-set_same : (row : List Bool) (s : ℕ) → s < length row → IsAt (slice_set row s true) s
-IsAt-set_same row s lt = get_or-set_same row s true false lt
-
-IsAt-set_keeps : (row : List Bool) (s k : ℕ) → s < length row → IsAt row k → IsAt (slice_set row s true) k
-IsAt-set_keeps row s k lt h = elim (ℕ_discrete k s) [ yes e ↦ subst (λ i. IsAt (slice_set row s true) i) (sym e) (IsAt-set_same row s lt) | no n ↦ (let differ : k ≢ s = n in get_or-set_other row s k true false differ ∙ h) ]
-
-IsAt-set_back : (row : List Bool) (s k : ℕ) → k ≢ s → IsAt (slice_set row s true) k → IsAt row k
-IsAt-set_back row s k differ h = sym (get_or-set_other row s k true false differ) ∙ h
-
-All-front : {X : Type 0} (P : X → Type 0) (xs ys : List X) → All P (xs ++ ys) → All P xs
-All-front P xs ys h k d lt = subst P (get_or_append_left xs ys d k lt) (h k d (omega (arith, lt, length-append xs ys)))
-
-pub All-last : {X : Type 0} (P : X → Type 0) (ys xs : List X) (x : X) → ys ≡ xs ++ x ∷ [] → All P ys → P x
-All-last P ys xs x e h = subst P (get_or-append_seam xs x [] x) (subst (λ zs. All P zs) e h (length xs) x (omega (arith, length-append xs (x ∷ []))))
-
-All-one : {X : Type 0} (P : X → Type 0) (x : X) → P x → All P (x ∷ [])
-All-one P x h zero d lt = h
-All-one P x h (suc k) d lt = absurd (omega (arith, lt))
 
 -- one mark more is one state less that lacks one
 count_by-set : (row : List Bool) (s : ℕ) → s < length row → (IsAt row s → ⊥) → count_by not (slice_set row s true) + 1 ≡ count_by not row

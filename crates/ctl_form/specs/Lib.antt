@@ -3,6 +3,7 @@ pub mod Code
 pub mod Form
 pub mod Kind
 pub mod Laws
+pub mod Next
 pub mod Normal
 pub mod Path
 pub mod Predecessors

@@ -1,4 +1,4 @@
-ghost use Rattle.std.specs.Prelude.{◌≡◌, ◌<◌, ◌/◌, ◌+◌, ◌-◌, ◌↔◌, ◌==◌, ◌^◌, bit_or, ℕ, length, replicate, false, true, slice_set, IsTrue, IfOk};
+ghost use Rattle.std.specs.Prelude.{◌≡◌, ◌⊎◌, ◌<◌, ◌/◌, ◌+◌, ◌-◌, ◌↔◌, ◌==◌, ◌^◌, bit_or, ℕ, length, replicate, false, true, slice_set, IsTrue, IfOk};
 ghost use Rattle.std.specs.Int.{bit_at};
 ghost use Rattle.ctl_form.specs.BitRow.{AreFlipped, AreMet};
 ghost use Rattle.ctl_form.specs.Row.{IsAt, IsRowOf};
@@ -28,7 +28,7 @@ impl Model for BitRow {
 impl BitRow {
     /// A row that is false at each of so many states.
     pub(crate) fn none(alloc: Global, states: usize) -> Result<BitRow, Memory>
-        ensures { IfOk result (λ row. row ≡ replicate states false) }
+        ensures { IfOk result (IsRowOf states (λ s. ⊥)) }
     {
         Ok(BitRow {
             words: zeros(alloc, states / 64 + 1)?,
@@ -86,6 +86,24 @@ impl BitRow {
             words: met(alloc, &self.words, &other.words)?,
             states: self.states,
         })
+    }
+
+    /// The row that is true where this one or the other is.
+    pub(crate) fn or(&self, alloc: Global, other: &BitRow) -> Result<BitRow, Memory>
+        requires { length self.now ≡ length other.now }
+        ensures { IfOk result (IsRowOf (length self.now) (λ s. IsAt self.now s ⊎ IsAt other.now s)) }
+    {
+        let neither = self.not(alloc)?.and(alloc, &other.not(alloc)?)?;
+        neither.not(alloc)
+    }
+
+    /// The row that is true where the other is true or this one is not.
+    pub(crate) fn implies(&self, alloc: Global, other: &BitRow) -> Result<BitRow, Memory>
+        requires { length self.now ≡ length other.now }
+        ensures { IfOk result (IsRowOf (length self.now) (λ s. IsAt self.now s → IsAt other.now s)) }
+    {
+        let broken = self.and(alloc, &other.not(alloc)?)?;
+        broken.not(alloc)
     }
 
     /// An equal row.

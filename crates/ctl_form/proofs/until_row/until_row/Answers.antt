@@ -2,10 +2,11 @@ use Rattle.std.proofs.Common.{ℕ, true, false, ◌≡◌, ◌<◌, ◌≤◌, �
 use Rattle.std.proofs.lemmas.Grind.{get_or_default_zero}
 use Rattle.ctl_form.specs.Row.{IsAt}
 use Rattle.ctl_form.specs.Spread.{IsSpread, Anyhow, Visits, AreCursors}
+use Rattle.ctl_form.proofs.AllOf.{All-last}
 use Rattle.ctl_form.proofs.CursorSteps.{AreCursors-more}
 use Rattle.ctl_form.proofs.MovePlaces.{has_move_at, in_order}
 use Rattle.ctl_form.proofs.Moves.{reaches_from}
-use Rattle.ctl_form.proofs.SpreadSteps.{All-last, IsAt-visit, left_to_do-visit, IsSpread-outset, IsSpread-take, IsSpread-visit, IsSpread-seen, IsSpread-done}
+use Rattle.ctl_form.proofs.SpreadSteps.{IsAt-visit, left_to_do-visit, IsSpread-outset, IsSpread-take, IsSpread-visit, IsSpread-seen, IsSpread-done}
 use Rattle.ctl_form.proofs.until_row.until_row.Goals as goal
 
 pub first_moves-requires-clause-within : goal.first_moves-requires-clause-within
