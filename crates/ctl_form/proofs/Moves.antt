@@ -33,6 +33,10 @@ decided_reaches m s t = decided_either (decided_has_move m A s t) (decided_has_m
 pub reaches_within : (m : Structure) → GoesOn m → (s t : ℕ) → Reaches m s t → t < length m.states
 reaches_within m on s t step = elim step [ inl a ↦ on.within A s t a | inr b ↦ on.within B s t b ]
 
+-- and so is what it leaves
+pub reaches_from : (m : Structure) → GoesOn m → (s t : ℕ) → Reaches m s t → s < length m.states
+reaches_from m on s t step = elim step [ inl a ↦ on.leaves A s t a | inr b ↦ on.leaves B s t b ]
+
 pub decided_after : (m : Structure) → GoesOn m → (all : Bool) (X : ℕ → Type 0) → ((t : ℕ) → t < length m.states → Decided (X t)) → (s : ℕ) → Decided (AfterMove m all X s)
 decided_after m on true X x s = decided_each_next (length m.states) (Reaches m s) X (reaches_within m on s) (decided_reaches m s) x
 decided_after m on false X x s = decided_some_next (length m.states) (Reaches m s) X (reaches_within m on s) (decided_reaches m s) x

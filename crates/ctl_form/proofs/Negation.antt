@@ -11,7 +11,7 @@ use Rattle.ctl_form.proofs.Moves.{decided_has_move}
 use Rattle.ctl_form.proofs.TruthDecided.{decided_truth, decided_after_one, are_decided}
 use Rattle.ctl_form.proofs.Opposed.{opposed, same_along}
 
-after_same : (m : Structure) (all : Bool) (side : Side) (X X' : ℕ → Type 0) → GoesOn m → ((t : ℕ) → t < length m.states → X' t ↔ X t) → (s : ℕ) → AfterOne m all side X' s ↔ AfterOne m all side X s
+pub after_same : (m : Structure) (all : Bool) (side : Side) (X X' : ℕ → Type 0) → GoesOn m → ((t : ℕ) → t < length m.states → X' t ↔ X t) → (s : ℕ) → AfterOne m all side X' s ↔ AfterOne m all side X s
 after_same m true side X X' on e s = (λ h t step. (e t (on.within side s t step)).0 (h t step), λ h t step. (e t (on.within side s t step)).1 (h t step))
 after_same m false side X X' on e s = (λ h. (h.0, h.1, (e h.0 (on.within side s h.0 h.1)).0 h.2), λ h. (h.0, h.1, (e h.0 (on.within side s h.0 h.1)).1 h.2))
 

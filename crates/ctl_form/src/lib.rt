@@ -1,17 +1,25 @@
 //! Formulas of CTL over the two processes of a pair: what they say of a structure, and what a kind of pairs asks.
 #![tactic(auto)]
 
+mod bit_row;
 mod clauses;
 mod conjuncts;
+mod cursors;
 mod formula;
+mod holds;
 mod laws;
+mod next_row;
 mod pair_spec;
+mod predecessors;
+mod until_row;
 #[cfg(test)]
 mod samples;
 
+pub use bit_row::BitRow;
 pub use clauses::Clauses;
 pub use conjuncts::whole;
 pub use formula::Formula;
+pub use holds::holds_at;
 pub use laws::{
     always_expands, always_goes_on, each_unless_expands, each_until_expands, normal_means,
     some_unless_expands, some_until_expands, sometime_expands, truth_is_decided, until_expands,
