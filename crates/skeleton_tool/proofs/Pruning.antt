@@ -37,6 +37,7 @@ arc_decided arcs p q =
   where
     found : Any (λ (arc : LocalArc). joins p q arc ≡ true) arcs → HasArc arcs p q
     found (k, arc, lt, is, pass) = let parts = both_true (arc.from == p) (arc.to == q) pass in (k, arc, lt, is, (eqb-true arc.from p parts.0, eqb-true arc.to q parts.1))
+
     passes : HasArc arcs p q → Any (λ (arc : LocalArc). joins p q arc ≡ true) arcs
     passes (k, arc, lt, is, ends) = (k, arc, lt, is, true_both (arc.from == p) (arc.to == q) (eq-eqb arc.from p ends.0) (eq-eqb arc.to q ends.1))
 
@@ -107,8 +108,10 @@ thrown_out a b first old new work more gone unsupported step was = record {
   where
     other : (x : ℕ × ℕ) → Keeps new x → x ≢ gone
     other x h e = step.gone_now (subst (λ y. Keeps new y) e h)
+
     older : (x : ℕ × ℕ) → Keeps new x → Keeps old x
     older x h = sym (step.others x (other x h)) ∙ h
+
     listed : (x : ℕ × ℕ) → Keeps new x → IsSupported a.arcs b.arcs old x ⊎ Contains (work ++ gone ∷ []) x → Precedes a.arcs b.arcs x gone ⊎ (Precedes a.arcs b.arcs x gone → ⊥) → IsSupported a.arcs b.arcs new x ⊎ Contains more x
     listed x h (inl s) (inl p) = inr (step.before x p)
     listed x h (inl s) (inr apart) = inl (supported_without a.arcs b.arcs old new gone x step.others apart s)

@@ -25,12 +25,12 @@ pub(crate) fn answer<S: Shelf>(
     requires allowed { All (λ file. S.may_ask shelf.old file.0 file.1) (asked_files (command_of (words_of words.now))) }
     requires empty { text.old.items ≡ [] }
     ensures answer { IfOk result (λ status. IsAnswer (words_of words.now) (record {
-        files = S.files shelf.old;
-        faults_before = S.faults shelf.old;
-        faults_after = S.faults shelf.new;
-        longs_before = S.longs shelf.old;
-        longs_after = S.longs shelf.new;
-      }) status text.new.items) }
+      files = S.files shelf.old;
+      faults_before = S.faults shelf.old;
+      faults_after = S.faults shelf.new;
+      longs_before = S.longs shelf.old;
+      longs_after = S.longs shelf.new;
+    }) status text.new.items) }
     ensures some { IfOk result (λ status. 0 < length text.new.items) }
 {
     match synth_file(words) {
@@ -51,12 +51,12 @@ fn synth<S: Shelf>(
     requires allowed { S.may_ask shelf.old file.now spec_limit }
     requires empty { text.old.items ≡ [] }
     ensures answer { IfOk result (λ status. AnswersFile (record {
-        files = S.files shelf.old;
-        faults_before = S.faults shelf.old;
-        faults_after = S.faults shelf.new;
-        longs_before = S.longs shelf.old;
-        longs_after = S.longs shelf.new;
-      }) file.now status text.new.items) }
+      files = S.files shelf.old;
+      faults_before = S.faults shelf.old;
+      faults_after = S.faults shelf.new;
+      longs_before = S.longs shelf.old;
+      longs_after = S.longs shelf.new;
+    }) file.now status text.new.items) }
     ensures some { IfOk result (λ status. 0 < length text.new.items) }
 {
     let mut bytes = Vec::new(alloc);

@@ -121,11 +121,7 @@ fn write_atom(
 }
 
 /// Appends the name of a local state; of none that there is, nothing.
-pub(crate) fn write_local(
-    names: &[Name],
-    local: u8,
-    into: &mut Vec<u8>,
-) -> Result<(), AllocError>
+pub(crate) fn write_local(names: &[Name], local: u8, into: &mut Vec<u8>) -> Result<(), AllocError>
     ensures { OnOk result (into.new.items ≡ into.old.items ++ name_at names.now local) }
 {
     match names.get(local as usize) {

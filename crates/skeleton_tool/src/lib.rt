@@ -2,11 +2,11 @@
 #![tactic(auto)]
 
 mod answer;
+mod call;
 mod command;
 mod engine;
 mod formula_text;
 mod narrow;
-mod call;
 mod solution_text;
 mod solving;
 mod spec_text;

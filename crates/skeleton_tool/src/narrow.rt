@@ -9,8 +9,8 @@ mod read_role;
 
 use crate::spec_text::write_spec;
 use check::{are_narrow_kinds, are_narrow_roles, have_roles};
-use cursor::Cursor;
 use ctl_form::PairSpec;
+use cursor::Cursor;
 use pair_structure::{Memory, Role};
 use read_kind::read_kinds;
 use read_role::read_roles;

@@ -98,11 +98,7 @@ fn write_arc(names: &[Name], arc: LocalArc, into: &mut Vec<u8>) -> Result<(), Al
     Ok(())
 }
 
-fn write_kinds(
-    roles: &[Role],
-    kinds: &[PairSpec],
-    into: &mut Vec<u8>,
-) -> Result<(), AllocError>
+fn write_kinds(roles: &[Role], kinds: &[PairSpec], into: &mut Vec<u8>) -> Result<(), AllocError>
     requires { All (HasRoles (length roles.now)) kinds.now }
     ensures { OnOk result (into.new.items ≡ into.old.items ++ flat_map (kind_text roles.now) kinds.now) }
 {
@@ -140,12 +136,7 @@ fn write_kind_lines(
     Ok(())
 }
 
-fn write_kind_head(
-    name: &Name,
-    a: &Name,
-    b: &Name,
-    into: &mut Vec<u8>,
-) -> Result<(), AllocError>
+fn write_kind_head(name: &Name, a: &Name, b: &Name, into: &mut Vec<u8>) -> Result<(), AllocError>
     ensures { OnOk result (into.new.items ≡ into.old.items ++ kind_head name.now a.now b.now) }
 {
     into.extend_from_slice(b"kind ")?;

@@ -9,7 +9,6 @@ use super::numbering::{Numbers, number};
 use pair_structure::{LocalArc, Memory, Move, PairStructure, Role, Side, StructureFault, arrange};
 use std::alloc::Global;
 
-
 /// The structure whose states are the kept labels, that of the starts first, with all moves between them.
 pub(crate) fn structure(
     alloc: Global,

@@ -25,11 +25,7 @@ pub(crate) fn number(alloc: Global, start: (u8, u8), table: &Table) -> Result<Nu
     Ok(numbering)
 }
 
-fn number_among(
-    alloc: Global,
-    start: (u8, u8),
-    labels: &[(u8, u8)],
-) -> Result<Numbering, Memory>
+fn number_among(alloc: Global, start: (u8, u8), labels: &[(u8, u8)]) -> Result<Numbering, Memory>
     requires start { (start.0 < 32) × (start.1 < 32) }
     requires labels { All (λ x. (x.0 < 32) × (x.1 < 32)) labels.now }
     ensures { IfOk result (λ n. IsNumbering start labels.now (length labels.now) n.states.items n.numbers) }
@@ -46,11 +42,7 @@ fn number_among(
 }
 
 /// Gives a label the next number.
-fn add(
-    label: (u8, u8),
-    states: &mut Vec<(u8, u8)>,
-    numbers: &mut Numbers,
-) -> Result<(), Memory>
+fn add(label: (u8, u8), states: &mut Vec<(u8, u8)>, numbers: &mut Numbers) -> Result<(), Memory>
     requires a { label.0 < 32 }
     requires b { label.1 < 32 }
     ensures grown { OnOk result (states.new.items ≡ states.old.items ++ label ∷ []) }

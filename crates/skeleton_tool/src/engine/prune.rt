@@ -51,11 +51,7 @@ fn push_before(
     Ok(())
 }
 
-fn push_before_a(
-    a: &[LocalArc],
-    label: (u8, u8),
-    work: &mut Vec<(u8, u8)>,
-) -> Result<(), Memory>
+fn push_before_a(a: &[LocalArc], label: (u8, u8), work: &mut Vec<(u8, u8)>) -> Result<(), Memory>
     ensures kept { OnOk result ((x : ℕ × ℕ) → Contains work.old.items x → Contains work.new.items x) }
     ensures before { OnOk result ((p : ℕ) → HasArc a.now p label.0 → Contains work.new.items (p, label.1)) }
     ensures few { OnOk result (vec_len work.new ≤ vec_len work.old + length a.now) }
@@ -68,11 +64,7 @@ fn push_before_a(
     Ok(())
 }
 
-fn push_before_b(
-    b: &[LocalArc],
-    label: (u8, u8),
-    work: &mut Vec<(u8, u8)>,
-) -> Result<(), Memory>
+fn push_before_b(b: &[LocalArc], label: (u8, u8), work: &mut Vec<(u8, u8)>) -> Result<(), Memory>
     ensures kept { OnOk result ((x : ℕ × ℕ) → Contains work.old.items x → Contains work.new.items x) }
     ensures before { OnOk result ((q : ℕ) → HasArc b.now q label.1 → Contains work.new.items (label.0, q)) }
     ensures few { OnOk result (vec_len work.new ≤ vec_len work.old + length b.now) }
@@ -97,27 +89,23 @@ fn is_supported(a: &[LocalArc], b: &[LocalArc], table: &Table, label: (u8, u8)) 
 fn frees_a(a: &[LocalArc], table: &Table, label: (u8, u8)) -> bool
     ensures { IsTrue result ↔ All (λ arc. arc.free ≡ true → arc.from ≡ label.0 → Keeps table.now (arc.to, label.1)) a.now }
 {
-    a.iter()
-        .all(|arc| !arc.free || arc.from != label.0 || keeps(table, (arc.to, label.1)))
+    a.iter().all(|arc| !arc.free || arc.from != label.0 || keeps(table, (arc.to, label.1)))
 }
 
 fn frees_b(b: &[LocalArc], table: &Table, label: (u8, u8)) -> bool
     ensures { IsTrue result ↔ All (λ arc. arc.free ≡ true → arc.from ≡ label.1 → Keeps table.now (label.0, arc.to)) b.now }
 {
-    b.iter()
-        .all(|arc| !arc.free || arc.from != label.1 || keeps(table, (label.0, arc.to)))
+    b.iter().all(|arc| !arc.free || arc.from != label.1 || keeps(table, (label.0, arc.to)))
 }
 
 fn goes_on_a(a: &[LocalArc], table: &Table, label: (u8, u8)) -> bool
     ensures { IsTrue result ↔ Any (λ arc. (arc.from ≡ label.0) × Keeps table.now (arc.to, label.1)) a.now }
 {
-    a.iter()
-        .any(|arc| arc.from == label.0 && keeps(table, (arc.to, label.1)))
+    a.iter().any(|arc| arc.from == label.0 && keeps(table, (arc.to, label.1)))
 }
 
 fn goes_on_b(b: &[LocalArc], table: &Table, label: (u8, u8)) -> bool
     ensures { IsTrue result ↔ Any (λ arc. (arc.from ≡ label.1) × Keeps table.now (label.0, arc.to)) b.now }
 {
-    b.iter()
-        .any(|arc| arc.from == label.1 && keeps(table, (label.0, arc.to)))
+    b.iter().any(|arc| arc.from == label.1 && keeps(table, (label.0, arc.to)))
 }

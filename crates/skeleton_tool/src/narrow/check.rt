@@ -126,9 +126,10 @@ fn spend_tokens(f: &Formula, left: usize) -> Option<usize>
 {
     match f {
         Formula::Yes | Formula::No | Formula::At { .. } => left.checked_sub(1),
-        Formula::Not(f) | Formula::Next { f, .. } | Formula::Always { f, .. } | Formula::Sometime { f, .. } => {
-            spend_tokens(f, left.checked_sub(1)?)
-        }
+        Formula::Not(f)
+        | Formula::Next { f, .. }
+        | Formula::Always { f, .. }
+        | Formula::Sometime { f, .. } => { spend_tokens(f, left.checked_sub(1)?) }
         Formula::And(f, g) | Formula::Or(f, g) | Formula::Implies(f, g) => {
             spend_tokens(g, spend_tokens(f, left.checked_sub(1)?)?)
         }
@@ -150,11 +151,13 @@ fn names_locals(a: usize, b: usize, f: &Formula) -> bool
             side: Side::B,
             local,
         } => (*local as usize) < b,
-        Formula::Not(f) | Formula::Next { f, .. } | Formula::Always { f, .. } | Formula::Sometime { f, .. } => {
-            names_locals(a, b, f)
-        }
-        Formula::And(f, g) | Formula::Or(f, g) | Formula::Implies(f, g) | Formula::Until { f, g, .. } => {
-            names_locals(a, b, f) && names_locals(a, b, g)
-        }
+        Formula::Not(f)
+        | Formula::Next { f, .. }
+        | Formula::Always { f, .. }
+        | Formula::Sometime { f, .. } => { names_locals(a, b, f) }
+        Formula::And(f, g)
+        | Formula::Or(f, g)
+        | Formula::Implies(f, g)
+        | Formula::Until { f, g, .. } => { names_locals(a, b, f) && names_locals(a, b, g) }
     }
 }

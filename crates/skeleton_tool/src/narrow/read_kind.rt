@@ -98,12 +98,7 @@ fn read_clauses(
 }
 
 /// The formula AG of the proposition that the bytes spell.
-fn read_clause(
-    alloc: Global,
-    a: &Role,
-    b: &Role,
-    bytes: &[u8],
-) -> Result<Option<Formula>, Memory> {
+fn read_clause(alloc: Global, a: &Role, b: &Role, bytes: &[u8]) -> Result<Option<Formula>, Memory> {
     match read_proposition(alloc, MAX_DEPTH, a.locals(), b.locals(), bytes)? {
         Some((f, [])) => Ok(Some(Formula::Always {
             all: true,

@@ -19,11 +19,7 @@ pub(super) fn read_roles(
     Ok(Some(roles))
 }
 
-fn read_role(
-    alloc: Global,
-    name: &[u8],
-    cursor: &mut Cursor<'_>,
-) -> Result<Option<Role>, Memory>
+fn read_role(alloc: Global, name: &[u8], cursor: &mut Cursor<'_>) -> Result<Option<Role>, Memory>
     ensures { length cursor.new.rest.now ≤ length cursor.old.rest.now }
 {
     let Some(name) = read_name(alloc, name)? else {

@@ -10,4 +10,4 @@ may_ask_file MayAsk command file is allowed =
 
 pub synth-requires-clause-allowed : goal.synth-requires-clause-allowed
 synth-requires-clause-allowed g c =
-    may_ask_file (λ (file : List ℕ × ℕ). g.S.Shelf.may_ask c.args.shelf.now file.0 file.1) (command_of (words_of c.args.words.now)) c.in-Some.file.now ? c.requires.allowed
+    may_ask_file (λ (file : List ℕ × ℕ). g.S.Shelf.may_ask c.args.shelf.now file.0 file.1) (command_of (words_of c.args.words.now)) c.in-Some.file.now c.in-Some.ensures c.requires.allowed

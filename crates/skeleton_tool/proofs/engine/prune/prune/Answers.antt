@@ -25,8 +25,8 @@ loop-label-preserved c =
     let was = rw c.in-Some.ensures.items at c.loop-label.invariant in
     elim c.else-keeps.branch [
       | else-keeps-via-then-keeps+else-not-is_supported w ↦
-        (let supported = rw (w.arcs.ensures, w.arcs-then-keeps.ensures) at w.if-not-is_supported.ensures in
+          (let supported = rw (w.arcs.ensures, w.arcs-then-keeps.ensures) at w.if-not-is_supported.ensures in
           passed_over c.args.a.now c.args.b.now c.args.table.now c.loop-label.table c.pop.new.self.items c.in-Some.label (λ _. supported.0 refl) was)
       | else-keeps-via-else-keeps w ↦
-        passed_over c.args.a.now c.args.b.now c.args.table.now c.loop-label.table c.pop.new.self.items c.in-Some.label (λ h. cc) was
+          passed_over c.args.a.now c.args.b.now c.args.table.now c.loop-label.table c.pop.new.self.items c.in-Some.label (λ h. cc) was
     ]
