@@ -1,8 +1,13 @@
+pub mod ArcTable
 pub mod First
+pub mod FirstFailing
+pub mod LabelIndex
 pub mod Least
 pub mod Name
 pub mod Ordinal
 pub mod Role
 pub mod RoleFault
 pub mod Structure
+pub mod StructureCheck
 pub mod StructureFault
+pub mod Turn

@@ -10,17 +10,37 @@ use Rattle.pair_structure.specs.Role.{HasArc, HasArcFrom}
 abbrev pub arc_at : List LocalArc → ℕ → LocalArc
 arc_at arcs n = slice_index_or arcs n (record { from = 0; to = 0; free = false })
 
+-- a local state before this one has its name
+abbrev pub HasEarlierName : List (List ℕ) → ℕ → Type 0
+HasEarlierName locals local = Any (λ name. name ≡ slice_index_or locals local []) (take local locals)
+
+-- an end of the arc is none of so many local states
+abbrev pub EndsOutside : ℕ → List LocalArc → ℕ → Type 0
+EndsOutside count arcs arc = (count ≤ (arc_at arcs arc).from) ⊎ (count ≤ (arc_at arcs arc).to)
+
+-- the arc ends where it begins
+abbrev pub JoinsItself : List LocalArc → ℕ → Type 0
+JoinsItself arcs arc = (arc_at arcs arc).from ≡ (arc_at arcs arc).to
+
+-- an arc before this one has its two ends
+abbrev pub HasEarlierEnds : List LocalArc → ℕ → Type 0
+HasEarlierEnds arcs arc = HasArc (take arc arcs) (arc_at arcs arc).from (arc_at arcs arc).to
+
+-- no arc leaves the local state
+abbrev pub IsNeverLeft : List LocalArc → ℕ → Type 0
+IsNeverLeft arcs local = HasArcFrom arcs local → ⊥
+
 -- the fault stands against these parts, at this place
 abbrev pub Stands : List (List ℕ) → ℕ → List LocalArc → RoleFault → Type 0
 Stands locals start arcs NoLocal = length locals ≡ 0
 Stands locals start arcs TooManyLocals = 32 < length locals
-Stands locals start arcs (LocalTwice local) = (local < length locals) × Any (λ name. name ≡ slice_index_or locals local []) (take local locals)
+Stands locals start arcs (LocalTwice local) = (local < length locals) × HasEarlierName locals local
 Stands locals start arcs StartRange = length locals ≤ start
 Stands locals start arcs TooManyArcs = 128 < length arcs
-Stands locals start arcs (ArcRange arc) = (arc < length arcs) × ((length locals ≤ (arc_at arcs arc).from) ⊎ (length locals ≤ (arc_at arcs arc).to))
-Stands locals start arcs (SelfArc arc) = (arc < length arcs) × ((arc_at arcs arc).from ≡ (arc_at arcs arc).to)
-Stands locals start arcs (ArcTwice arc) = (arc < length arcs) × HasArc (take arc arcs) (arc_at arcs arc).from (arc_at arcs arc).to
-Stands locals start arcs (NoArc local) = (local < length locals) × (HasArcFrom arcs local → ⊥)
+Stands locals start arcs (ArcRange arc) = (arc < length arcs) × EndsOutside (length locals) arcs arc
+Stands locals start arcs (SelfArc arc) = (arc < length arcs) × JoinsItself arcs arc
+Stands locals start arcs (ArcTwice arc) = (arc < length arcs) × HasEarlierEnds arcs arc
+Stands locals start arcs (NoArc local) = (local < length locals) × IsNeverLeft arcs local
 
 -- the order of the kinds
 abbrev pub kind_of : RoleFault → ℕ
@@ -48,3 +68,7 @@ place_of (NoArc local) = local
 
 abbrev pub IsFirstRoleFault : List (List ℕ) → ℕ → List LocalArc → RoleFault → Type 0
 IsFirstRoleFault locals start arcs = IsFirst kind_of place_of (Stands locals start arcs)
+
+-- no fault of an earlier kind than this one stands
+abbrev pub NoneBefore : List (List ℕ) → ℕ → List LocalArc → RoleFault → Type 0
+NoneBefore locals start arcs fault = (other : RoleFault) → kind_of other < kind_of fault → Stands locals start arcs other → ⊥

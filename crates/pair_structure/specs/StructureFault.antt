@@ -6,7 +6,7 @@ use Rattle.pair_structure.specs.declared.structure_fault.StructureFault.{Structu
 use Rattle.pair_structure.specs.declared.structure_fault.StructureFault.TheVariants.{Empty, Start, LocalRange, MoveRange, NotAnArc, OtherSideMoved, NotRising, NoMove, Memory}
 use Rattle.pair_structure.specs.First.{IsFirst}
 use Rattle.pair_structure.specs.Role.{RoleParts}
-use Rattle.pair_structure.specs.Structure.{label_at, IsLabel, TakesArc, OtherStays, IsBefore, HasMove, Reaches}
+use Rattle.pair_structure.specs.Structure.{label_at, IsLabel, TakesArc, OtherStays, IsBefore, Reaches}
 
 -- a move of a list by its number; past the end one of no matter
 abbrev pub move_at : List Move → ℕ → Move

@@ -1,15 +1,25 @@
 //! Roles and pair structures: the finite graphs that a pair of processes runs over.
 #![tactic(auto)]
 
+mod arc_table;
+mod label_index;
+mod label_lists;
 mod memory;
+mod move_check;
+mod move_order;
+mod moves_of;
 mod name;
 mod role;
 mod role_fault;
 mod side;
 mod structure;
+mod structure_check;
 mod structure_fault;
+#[cfg(test)]
+mod structure_tests;
 
 pub use memory::Memory;
+pub use move_order::arrange;
 pub use name::{Name, NameFault};
 pub use role::Role;
 pub use role_fault::RoleFault;

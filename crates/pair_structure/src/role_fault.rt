@@ -1,4 +1,15 @@
+ghost use Rattle.std.specs.Prelude.{◌≡◌, ◌↔◌, ◌<◌, ◌≤◌, ℕ, List, length, Any, IsTrue, MatchOption, IfNone};
+ghost use Rattle.pair_structure.specs.declared.side.LocalArc.{LocalArc};
+ghost use Rattle.pair_structure.specs.Least.{IsLeast};
+ghost use Rattle.pair_structure.specs.Role.{AreLawful, HasArc, HasArcFrom};
+ghost use Rattle.pair_structure.specs.RoleFault.{IsFirstRoleFault, NoneBefore, HasEarlierName, EndsOutside, JoinsItself, HasEarlierEnds, IsNeverLeft};
+
+use crate::{LocalArc, Name};
 use thiserror::Error;
+
+const MAX_LOCALS: usize = 32;
+
+const MAX_ARCS: usize = 128;
 
 /// Why some parts are no role. The order of the variants is the order of refusals: the first that stands is answered, and of one kind
 /// the lowest number.
@@ -31,4 +42,131 @@ pub enum RoleFault {
     /// No arc leaves the local state.
     #[error("no arc leaves local state {local}")]
     NoArc { local: u8 },
+}
+
+/// The first fault of these parts, if they have one.
+pub(crate) fn fault_of(locals: &[Name], start: u8, arcs: &[LocalArc]) -> Option<RoleFault>
+    ensures { MatchOption result (AreLawful locals.now start arcs.now) (IsFirstRoleFault locals.now start arcs.now) }
+{
+    if let Some(fault) = fault_of_locals(locals, start) {
+        return Some(fault);
+    }
+    fault_of_arcs(locals, arcs)
+}
+
+fn fault_of_locals(locals: &[Name], start: u8) -> Option<RoleFault>
+    ensures { (arcs : List LocalArc) →
+        MatchOption result (NoneBefore locals.now start arcs RoleFault.TooManyArcs) (IsFirstRoleFault locals.now start arcs) }
+{
+    if locals.is_empty() {
+        return Some(RoleFault::NoLocal);
+    }
+    if locals.len() > MAX_LOCALS {
+        return Some(RoleFault::TooManyLocals);
+    }
+    if let Some(local) = first_repeated_name(locals) {
+        return Some(RoleFault::LocalTwice { local: local as u8 });
+    }
+    if start as usize >= locals.len() {
+        return Some(RoleFault::StartRange);
+    }
+    None
+}
+
+fn first_repeated_name(locals: &[Name]) -> Option<usize>
+    ensures { IsLeast (HasEarlierName locals.now) (length locals.now) result }
+{
+    for (local, name) in locals.iter().enumerate() {
+        if has_name(&locals[..local], name) {
+            return Some(local);
+        }
+    }
+    None
+}
+
+fn has_name(names: &[Name], name: &Name) -> bool
+    ensures { IsTrue result ↔ Any (λ other. other ≡ name.now) names.now }
+{
+    names.iter().any(|other| other.is_same(name))
+}
+
+fn fault_of_arcs(locals: &[Name], arcs: &[LocalArc]) -> Option<RoleFault>
+    requires { length locals.now ≤ 32 }
+    ensures { (start : ℕ) → NoneBefore locals.now start arcs.now RoleFault.TooManyArcs →
+        MatchOption result (AreLawful locals.now start arcs.now) (IsFirstRoleFault locals.now start arcs.now) }
+{
+    if arcs.len() > MAX_ARCS {
+        return Some(RoleFault::TooManyArcs);
+    }
+    if let Some(arc) = first_arc_outside(locals.len(), arcs) {
+        return Some(RoleFault::ArcRange { arc: arc as u32 });
+    }
+    if let Some(arc) = first_self_arc(arcs) {
+        return Some(RoleFault::SelfArc { arc: arc as u32 });
+    }
+    if let Some(arc) = first_repeated_arc(arcs) {
+        return Some(RoleFault::ArcTwice { arc: arc as u32 });
+    }
+    if let Some(local) = first_never_left(locals.len(), arcs) {
+        return Some(RoleFault::NoArc { local: local as u8 });
+    }
+    None
+}
+
+fn first_arc_outside(count: usize, arcs: &[LocalArc]) -> Option<usize>
+    ensures { IsLeast (EndsOutside count arcs.now) (length arcs.now) result }
+{
+    for (number, arc) in arcs.iter().enumerate() {
+        if arc.from as usize >= count || arc.to as usize >= count {
+            return Some(number);
+        }
+    }
+    None
+}
+
+fn first_self_arc(arcs: &[LocalArc]) -> Option<usize>
+    ensures { IsLeast (JoinsItself arcs.now) (length arcs.now) result }
+{
+    for (number, arc) in arcs.iter().enumerate() {
+        if arc.from == arc.to {
+            return Some(number);
+        }
+    }
+    None
+}
+
+fn first_repeated_arc(arcs: &[LocalArc]) -> Option<usize>
+    ensures { IsLeast (HasEarlierEnds arcs.now) (length arcs.now) result }
+{
+    for (number, arc) in arcs.iter().enumerate() {
+        if has_arc(&arcs[..number], arc.from, arc.to) {
+            return Some(number);
+        }
+    }
+    None
+}
+
+/// Whether some arc leads from one local state to the other. Linear in the arcs.
+pub(crate) fn has_arc(arcs: &[LocalArc], from: u8, to: u8) -> bool
+    ensures { IsTrue result ↔ HasArc arcs.now from to }
+{
+    arcs.iter().any(|arc| arc.from == from && arc.to == to)
+}
+
+fn first_never_left(count: usize, arcs: &[LocalArc]) -> Option<usize>
+    ensures least { IsLeast (IsNeverLeft arcs.now) count result }
+    ensures none { IfNone result ((local : ℕ) → local < count → HasArcFrom arcs.now local) }
+{
+    for local in 0..count {
+        if !is_left(local, arcs) {
+            return Some(local);
+        }
+    }
+    None
+}
+
+fn is_left(local: usize, arcs: &[LocalArc]) -> bool
+    ensures { IsTrue result ↔ HasArcFrom arcs.now local }
+{
+    arcs.iter().any(|arc| arc.from as usize == local)
 }

@@ -3,14 +3,17 @@ ghost use Rattle.pair_structure.specs.Ordinal.{ordinal_of, IsStateAt, leaves};
 ghost use Rattle.pair_structure.specs.Structure.{Structure, GoesOn, IsPairStructure, IsOver, IsRising};
 ghost use Rattle.pair_structure.specs.StructureFault.{IsFirstStructureFault};
 
+use crate::label_index::LabelIndex;
+use crate::moves_of::moves_of;
+use crate::structure_check::{fault_of, is_structure};
 use crate::{Memory, Move, Role, Side, StructureFault};
-use std::alloc::Global;
+use std::alloc::{AllocError, Global};
 use std::marker::Model;
 
 /// A pair structure: states that are labelled with a local state of each of two roles, and moves between them.
 #[derive(Debug, Drop)]
 pub struct PairStructure {
-    states: Vec<(u8, u8)>,
+    states: LabelIndex,
     moves: Vec<Move>,
 }
 
@@ -19,13 +22,14 @@ impl Model for PairStructure {
 
     ghost Value = { Structure };
 
-    ghost view = { λ m. record { states = m.states.items; moves = m.moves.items } };
+    ghost view = { λ m. record { states = m.states; moves = m.moves.items } };
 
-    ghost invariant = { λ m. GoesOn (record { states = m.states.items; moves = m.moves.items }) × IsRising m.moves.items };
+    ghost invariant = { λ m. GoesOn (record { states = m.states; moves = m.moves.items }) × IsRising m.moves.items };
 }
 
 impl PairStructure {
     /// The structure with these states and moves over the two roles, or the first fault that stands against them. Linear in states and moves.
+    #[tactic(auto, using(crate::proofs::StructureFaultLaws::none_against))]
     pub fn make(
         alloc: Global,
         a: &Role,
@@ -36,8 +40,26 @@ impl PairStructure {
         ensures structure { IfOk result (λ m. m ≡ record { states = states.now; moves = moves.now }) }
         ensures lawful { IfOk result (λ m. IsPairStructure a.now b.now states.now moves.now) }
         ensures fault { IfErr result (λ fault. fault ≢ StructureFault.Memory → IsFirstStructureFault a.now b.now states.now moves.now fault) }
+        ensures refused { IfErr result (λ fault. fault ≢ StructureFault.Memory → IsPairStructure a.now b.now states.now moves.now → ⊥) }
     {
-        Err(StructureFault::Memory)
+        if let Some(fault) = fault_of(a, b, states, moves) {
+            return Err(fault);
+        }
+        match PairStructure::of(alloc, states, moves) {
+            Ok(m) => Ok(m),
+            Err(AllocError) => Err(StructureFault::Memory),
+        }
+    }
+
+    fn of(alloc: Global, states: &[(u8, u8)], moves: &[Move]) -> Result<PairStructure, AllocError>
+        requires goes_on { GoesOn (record { states = states.now; moves = moves.now }) }
+        requires rising { IsRising moves.now }
+        ensures { IfOk result (λ m. m ≡ record { states = states.now; moves = moves.now }) }
+    {
+        Ok(PairStructure {
+            states: LabelIndex::of(alloc, states)?,
+            moves: Vec::from_slice(alloc, moves)?,
+        })
     }
 
     /// The label of each state: a local state of side a, and one of side b.
@@ -45,7 +67,7 @@ impl PairStructure {
         ensures states { result.now ≡ self.now.states }
         ensures goes_on { GoesOn self.now }
     {
-        &self.states
+        self.states.labels()
     }
 
     /// The moves, rising.
@@ -54,5 +76,42 @@ impl PairStructure {
         ensures rising { IsRising self.now.moves }
     {
         &self.moves
+    }
+
+    /// The moves of one side from a state. Logarithmic in moves.
+    pub fn moves_of(&self, state: u64, side: Side) -> &[Move]
+        requires { state < length self.now.states }
+        ensures { result.now ≡ filter (leaves state side) self.now.moves }
+    {
+        moves_of(&self.moves, state, side)
+    }
+
+    /// How many states with the label of this one have a lower number.
+    pub fn ordinal(&self, state: u64) -> u64
+        requires { state < length self.now.states }
+        ensures { result ≡ ordinal_of self.now.states state }
+    {
+        self.states.ordinal(state)
+    }
+
+    /// The state with this label and this ordinal, if there is one.
+    pub fn state_at(&self, a: u8, b: u8, x: u64) -> Option<u64>
+        ensures { MatchOption result ((s : ℕ) → IsStateAt self.now.states (a, b) x s → ⊥) (IsStateAt self.now.states (a, b) x) }
+    {
+        self.states.state_at(a, b, x)
+    }
+
+    /// Whether this is a structure over the two roles. Linear in states and moves.
+    pub fn is_over(&self, a: &Role, b: &Role) -> bool
+        ensures { IsTrue result ↔ IsOver a.now b.now self.now }
+    {
+        is_structure(a, b, self.states(), self.moves())
+    }
+
+    /// An equal structure.
+    pub fn copy(&self, alloc: Global) -> Result<PairStructure, Memory>
+        ensures { IfOk result (λ m. m ≡ self.now) }
+    {
+        Ok(PairStructure::of(alloc, self.states(), self.moves())?)
     }
 }

@@ -1,0 +1,12 @@
+pub mod AllPairsLaws
+pub mod ArcMarks
+pub mod FirstLaws
+pub mod ListOfLists
+pub mod Middle
+pub mod MoveOrder
+pub mod Ordinals
+pub mod Rising
+pub mod RoleFaultLaws
+pub mod StatesLeft
+pub mod StructureFaultLaws
+pub mod Turns
