@@ -1,5 +1,5 @@
 -- What holds of each element of a list holds of each element of a part, and of the last.
-use Rattle.std.proofs.Common.{ℕ, zero, suc, ◌≡◌, ◌<◌, ◌++◌, List, [], ◌∷◌, length, All, subst, arith, length-append}
+use Rattle.std.proofs.Common.{zero, suc, ◌≡◌, ◌++◌, List, [], ◌∷◌, length, All, subst, arith, length-append}
 use Rattle.std.proofs.Math.Seq.{get_or-append_seam}
 use Rattle.std.proofs.lemmas.List.{get_or_append_left}
 

@@ -1,8 +1,7 @@
 -- Bits in words of 64 as a list of truth values.
-use Rattle.std.proofs.Common.{ℕ, ◌≡◌, ◌≢◌, ◌↔◌, ◌<◌, ◌≤◌, ◌+◌, ◌-◌, ◌==◌, ◌&&◌, ◌/◌, ◌%◌, ◌^◌, Bool, true, false, not, min, inl, inr, List, length, refl, subst, sym, ap, ◌∙◌, arith, eq-eqb, max, bit_or, replicate, slice_index, slice_set, get_or-set_same, get_or-set_other, length-set, slice_index_or}
+use Rattle.std.proofs.Common.{ℕ, ◌≡◌, ◌≢◌, ◌↔◌, ◌<◌, ◌+◌, ◌-◌, ◌==◌, ◌&&◌, ◌/◌, ◌%◌, Bool, true, false, not, min, inl, inr, List, length, refl, subst, sym, ap, ◌∙◌, arith, eq-eqb, max, replicate, slice_index, slice_set, get_or-set_same, get_or-set_other, length-set, slice_index_or}
 use Rattle.std.proofs.Math.Decide.{ℕ_discrete}
 use Rattle.std.specs.Int.{bit_at}
-use Rattle.std.specs.List.{range_with_len}
 use Rattle.std.proofs.lemmas.List.{ext_get_or, get_or-replicate, length-replicate}
 use Rattle.std.proofs.lemmas.Bool.{cases_lt}
 use Rattle.std.proofs.lemmas.Bool.Decides.{nat_tests}

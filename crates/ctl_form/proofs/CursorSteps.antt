@@ -1,10 +1,9 @@
 -- Cursors over the moves of each state: where they begin, and where they go on.
-use Rattle.std.proofs.Common.{ℕ, ◌≡◌, ◌≢◌, ◌+◌, ◌<◌, ◌≤◌, ◌⊎◌, ◌↔◌, inl, inr, Bool, true, false, List, [], length, slice_index, slice_set, refl, subst, sym, ◌∙◌, arith, length-set, get_or-set_same, get_or-set_other}
-use Rattle.std.proofs.Math.Decide.{ℕ_discrete, dec_lt}
+use Rattle.std.proofs.Common.{ℕ, ◌≡◌, ◌≢◌, ◌<◌, ◌≤◌, Bool, List, length, slice_index}
 use Rattle.pair_structure.specs.declared.side.Move.{Move}
 use Rattle.pair_structure.specs.StructureFault.{move_at}
 use Rattle.ctl_form.specs.Row.{IsAt}
-use Rattle.ctl_form.specs.Spread.{AreInOrder, AreCursors, EachLeads, IsPassed}
+use Rattle.ctl_form.specs.Spread.{AreCursors}
 
 -- from this place on, each state's cursor stands at its first move
 pub record AreFirst (states : ℕ) (moves : List Move) (place : ℕ) (cursors : List ℕ) : Type 0 where

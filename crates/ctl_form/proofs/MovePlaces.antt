@@ -1,5 +1,5 @@
 -- A move of a structure by its number: what it leads from and to, and what leads from one state to another.
-use Rattle.std.proofs.Common.{ℕ, ◌≡◌, zero, suc, ◌<◌, ◌≤◌, ◌+◌, ◌⊎◌, inl, inr, length, arith, add-one, ap, subst, sym, refl, slice_index_or, ◌∙◌}
+use Rattle.std.proofs.Common.{ℕ, ◌≡◌, zero, suc, ◌<◌, ◌≤◌, ◌+◌, inl, inr, length, arith, add-one, ap, subst, ◌∙◌}
 use Rattle.std.proofs.Math.Decide.{dec_le}
 use Rattle.std.proofs.lemmas.List.{get_or_default}
 use Rattle.pair_structure.specs.declared.side.Side.{Side}

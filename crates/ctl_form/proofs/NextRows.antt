@@ -1,5 +1,5 @@
 -- Rows of next-times: the moves that were passed, and each move as the negation of some move.
-use Rattle.std.proofs.Common.{ℕ, ◌≡◌, ◌⊎◌, ◌<◌, ◌≤◌, ◌+◌, ◌↔◌, inl, inr, Bool, true, false, Option, Some, None, List, length, refl, ap, subst, sym, ◌∙◌, arith, slice_set, length-set, get_or-set_same, get_or-set_other, ◌≢◌}
+use Rattle.std.proofs.Common.{ℕ, ◌≡◌, ◌⊎◌, ◌<◌, ◌+◌, ◌↔◌, inl, inr, Bool, true, false, Option, Some, None, List, length, refl, ap, subst, sym, ◌∙◌, arith, slice_set, length-set, ◌≢◌}
 use Rattle.std.proofs.Math.Decide.{ℕ_discrete, dec_lt}
 use Rattle.pair_structure.specs.declared.side.Side.{Side}
 use Rattle.pair_structure.specs.declared.side.Side.TheVariants.{A, B}

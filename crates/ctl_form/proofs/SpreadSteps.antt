@@ -1,8 +1,6 @@
 -- A worklist's steps keep the marks sound, and with an empty list the marks are exact.
-use Rattle.std.proofs.Common.{ℕ, zero, suc, ◌≡◌, ◌≢◌, ◌⊎◌, ◌<◌, ◌≤◌, ◌+◌, ◌*◌, ◌++◌, inl, inr, Bool, true, false, not, List, [], ◌∷◌, length, refl, subst, sym, ◌∙◌, arith, All, Contains, cond, count_by, slice_index, slice_index_or, slice_set, get_or-set_same, get_or-set_other, length-set, length-append}
-use Rattle.std.proofs.Math.Decide.{ℕ_discrete, dec_lt}
-use Rattle.std.proofs.Math.Seq.{get_or-append_seam}
-use Rattle.std.proofs.lemmas.List.{get_or_append_left}
+use Rattle.std.proofs.Common.{ℕ, zero, suc, ◌≡◌, ◌≢◌, ◌<◌, ◌≤◌, ◌+◌, ◌++◌, inl, inr, Bool, true, false, not, List, [], ◌∷◌, length, refl, subst, sym, ◌∙◌, arith, Contains, cond, count_by, slice_index, slice_index_or, slice_set, length-set, length-append}
+use Rattle.std.proofs.Math.Decide.{ℕ_discrete}
 use Rattle.std.proofs.lemmas.List.Elements.{All-append, Contains-append_left, Contains-append_right, Contains-append_cases}
 use Rattle.std.proofs.lemmas.List.Sums.{sum_by-set}
 use Rattle.pair_structure.specs.declared.side.Move.{Move}
@@ -13,7 +11,6 @@ use Rattle.ctl_form.specs.Rounds.{AfterMove}
 use Rattle.ctl_form.specs.Row.{IsAt, IsRowOf}
 use Rattle.ctl_form.specs.Spread.{EachLeads, IsAdmitted, Visits, IsMarkList, Anyhow, SeenBefore, IsUsed, IsSpread}
 use Rattle.ctl_form.specs.Truth.{AlongPaths}
-use Rattle.ctl_form.proofs.Decided.{Decided}
 use Rattle.ctl_form.proofs.AllOf.{All-front, All-one}
 use Rattle.ctl_form.proofs.MovePlaces.{move_of, reaches_by}
 use Rattle.ctl_form.proofs.Moves.{reaches_within, reaches_from, after_map}

@@ -1,14 +1,13 @@
 -- Rows of untils: a weak until as the negation of a strong one, and untils of facts that rows have.
-use Rattle.std.proofs.Common.{ℕ, ◌≡◌, ◌⊎◌, ◌<◌, ◌↔◌, inl, inr, Bool, true, false, not, Option, Some, None, List, length, ◌∙◌, arith}
+use Rattle.std.proofs.Common.{ℕ, ◌≡◌, ◌<◌, ◌↔◌, inl, inr, Bool, true, false, not, Option, Some, None, List, length, ◌∙◌, arith}
 use Rattle.pair_structure.specs.declared.side.Side.{Side}
 use Rattle.pair_structure.specs.declared.side.Side.TheVariants.{A, B}
-use Rattle.pair_structure.specs.Structure.{Structure, HasMove, GoesOn}
+use Rattle.pair_structure.specs.Structure.{Structure, GoesOn}
 use Rattle.ctl_form.specs.Row.{IsAt, IsRowOf}
-use Rattle.ctl_form.specs.Truth.{AfterOne, After, AlongPaths}
+use Rattle.ctl_form.specs.Truth.{After, AlongPaths}
 use Rattle.ctl_form.proofs.Decided.{Decided, decided_iff}
 use Rattle.ctl_form.proofs.Negation.{after_same}
 use Rattle.ctl_form.proofs.Opposed.{AreOpposed, opposed, same_along}
-use Rattle.ctl_form.proofs.Rounds.{AreDecided}
 use Rattle.ctl_form.proofs.Rows.{IsRowOf-map, decided_at}
 use Rattle.ctl_form.proofs.SpreadSteps.{rows_decided}
 use Rattle.ctl_form.proofs.TruthDecided.{decided_along}

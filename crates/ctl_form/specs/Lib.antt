@@ -9,5 +9,6 @@ pub mod Path
 pub mod Predecessors
 pub mod Rounds
 pub mod Row
+pub mod Solving
 pub mod Spread
 pub mod Truth

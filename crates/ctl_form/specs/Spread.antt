@@ -1,7 +1,7 @@
 -- How a strong until is labelled: marks spread against the moves, by a worklist. The machine's words; no public clause cites them.
-use Rattle.std.specs.Prelude.{ℕ, ◌≡◌, ◌⊎◌, ◌<◌, ◌≤◌, ◌+◌, ◌++◌, Bool, true, false, List, [], ◌∷◌, All, Contains, length, slice_index, slice_set}
+use Rattle.std.specs.Prelude.{ℕ, ◌≡◌, ◌⊎◌, ◌<◌, ◌≤◌, ◌++◌, Bool, true, false, List, [], ◌∷◌, All, Contains, length, slice_index, slice_set}
 use Rattle.pair_structure.specs.declared.side.Move.{Move}
-use Rattle.pair_structure.specs.Structure.{Structure, Reaches}
+use Rattle.pair_structure.specs.Structure.{Structure}
 use Rattle.pair_structure.specs.StructureFault.{move_at}
 use Rattle.ctl_form.specs.Rounds.{AfterMove}
 use Rattle.ctl_form.specs.Row.{IsAt}

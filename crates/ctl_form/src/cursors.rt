@@ -27,12 +27,7 @@ pub(crate) fn first_moves(
 
 /// Whether every move from the state leads to a marked one. Its cursor goes on to the first that does not, so that over all calls each
 /// move is passed once.
-pub(crate) fn each_leads(
-    moves: &[Move],
-    row: &BitRow,
-    cursors: &mut [usize],
-    state: u64,
-) -> bool
+pub(crate) fn each_leads(moves: &[Move], row: &BitRow, cursors: &mut [usize], state: u64) -> bool
     requires within { (j : ℕ) → j < length moves.now → (move_at moves.now j).to < length row.now }
     requires in_order { AreInOrder moves.now }
     requires cursors { AreCursors (length row.now) moves.now row.now cursors.old }

@@ -3,6 +3,7 @@
 
 mod bit_row;
 mod clauses;
+mod code;
 mod conjuncts;
 mod cursors;
 mod formula;
@@ -11,9 +12,10 @@ mod laws;
 mod next_row;
 mod pair_spec;
 mod predecessors;
-mod until_row;
 #[cfg(test)]
 mod samples;
+mod solving;
+mod until_row;
 
 pub use bit_row::BitRow;
 pub use clauses::Clauses;
@@ -25,3 +27,4 @@ pub use laws::{
     some_unless_expands, some_until_expands, sometime_expands, truth_is_decided, until_expands,
 };
 pub use pair_spec::PairSpec;
+pub use solving::solves;

@@ -32,7 +32,13 @@ impl Predecessors {
         begins.push(0usize)?;
         let mut sources = Vec::with_capacity(alloc, moves.len())?;
         for state in 0..states {
-            push_sources(moves, &links.before, state as u64, links.ends[state], &mut sources)?;
+            push_sources(
+                moves,
+                &links.before,
+                state as u64,
+                links.ends[state],
+                &mut sources,
+            )?;
             begins.push(sources.len())?;
         }
         Ok(Predecessors { begins, sources })

@@ -5,9 +5,9 @@ ghost use Rattle.ctl_form.specs.Row.{IsAt, IsRowOf};
 ghost use Rattle.ctl_form.specs.Spread.{AreInOrder, AreCursors, IsAdmitted, IsMarkList, Visits};
 ghost use Rattle.ctl_form.specs.Truth.{AlongPaths};
 
+use crate::BitRow;
 use crate::cursors::{each_leads, first_moves};
 use crate::predecessors::Predecessors;
-use crate::BitRow;
 use pair_structure::{Memory, Move, PairStructure};
 use std::alloc::Global;
 

@@ -1,4 +1,4 @@
-use Rattle.std.proofs.Common.{ℕ, true, false, ap, subst, length}
+use Rattle.std.proofs.Common.{true, false, subst, length}
 use Rattle.std.proofs.lemmas.Result.{IfOk-weaker}
 use Rattle.ctl_form.specs.Form.{form_of, truth, falsity}
 use Rattle.ctl_form.specs.Row.{IsRowOf, IsTruthOf}

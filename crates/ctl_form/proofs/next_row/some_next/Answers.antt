@@ -1,7 +1,6 @@
-use Rattle.std.proofs.Common.{ℕ, ◌≡◌, ◌<◌, ◌≤◌, false, true, length, refl, sym, ap, subst, arith}
-use Rattle.pair_structure.specs.StructureFault.{move_at}
-use Rattle.ctl_form.specs.Next.{IsOf, SomeLeads}
-use Rattle.ctl_form.specs.Row.{IsAt, IsRowOf}
+use Rattle.std.proofs.Common.{◌≡◌, false, true, length, refl, ap, subst, arith}
+use Rattle.ctl_form.specs.Next.{SomeLeads}
+use Rattle.ctl_form.specs.Row.{IsRowOf}
 use Rattle.ctl_form.proofs.MovePlaces.{has_move_at}
 use Rattle.ctl_form.proofs.NextRows.{IsRowOf-lead, IsRowOf-pass, IsRowOf-some}
 use Rattle.ctl_form.proofs.next_row.some_next.Goals.{then-leads, else-leads}
@@ -23,10 +22,10 @@ loop-step-preserved c =
     let lt = rw moves at c.loop-step-test.true in
     elim c.if-leads.branch [
       | then-leads w ↦
-        let leads = rw moves at (w.if-leads.ensures.0 refl) in
-        rw (w.row-is, w.add.ensures, moves) (IsRowOf-lead (length c.args.m.now.states) c.args.m.now.moves c.args.side c.args.p.now c.loop-step.step-index c.loop-step.row (c.states.ensures.goes_on.leaves _ _ _ (has_move_at c.args.m.now c.loop-step.step-index lt)) leads.0 leads.1 c.loop-step.invariant)
+          let leads = rw moves at (w.if-leads.ensures.0 refl) in
+          rw (w.row-is, w.add.ensures, moves) (IsRowOf-lead (length c.args.m.now.states) c.args.m.now.moves c.args.side c.args.p.now c.loop-step.step-index c.loop-step.row (c.states.ensures.goes_on.leaves _ _ _ (has_move_at c.args.m.now c.loop-step.step-index lt)) leads.0 leads.1 c.loop-step.invariant)
       | else-leads w ↦
-        rw w.row-is (IsRowOf-pass (length c.args.m.now.states) c.args.m.now.moves c.args.side c.args.p.now c.loop-step.step-index c.loop-step.row (λ h. let no_lead : false ≡ true = w.if-leads.ensures.1 (rw moves h) in cc) c.loop-step.invariant)
+          rw w.row-is (IsRowOf-pass (length c.args.m.now.states) c.args.m.now.moves c.args.side c.args.p.now c.loop-step.step-index c.loop-step.row (λ h. let no_lead : false ≡ true = w.if-leads.ensures.1 (rw moves h) in cc) c.loop-step.invariant)
     ]
 
 pub returns : goal.returns

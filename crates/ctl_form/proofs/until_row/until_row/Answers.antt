@@ -1,4 +1,4 @@
-use Rattle.std.proofs.Common.{ℕ, true, false, ◌≡◌, ◌<◌, ◌≤◌, ◌∙◌, ◌+◌, ◌++◌, ◌∷◌, [], arith, subst, ap, refl, length, slice_index}
+use Rattle.std.proofs.Common.{true, false, ◌≡◌, ◌<◌, ◌≤◌, ◌∙◌, ◌+◌, [], arith, subst, ap, length, slice_index}
 use Rattle.std.proofs.lemmas.Grind.{get_or_default_zero}
 use Rattle.ctl_form.specs.Row.{IsAt}
 use Rattle.ctl_form.specs.Spread.{IsSpread, Anyhow, Visits, AreCursors}

@@ -1,4 +1,4 @@
-use Rattle.std.proofs.Common.{ℕ, ◌≡◌, ◌<◌, ◌≤◌, ◌+◌, ◌*◌, length}
+use Rattle.std.proofs.Common.{◌≤◌, length}
 use Rattle.ctl_form.specs.Row.{IsAt}
 use Rattle.ctl_form.specs.Spread.{AreCursors, IsSpread, Anyhow, SeenBefore}
 use Rattle.ctl_form.proofs.SpreadSteps.{left_to_do}

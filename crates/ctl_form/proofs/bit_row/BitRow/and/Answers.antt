@@ -1,4 +1,4 @@
-use Rattle.std.proofs.Common.{◌≡◌, ◌/◌, ◌+◌, subst, sym, ap, ◌∙◌, length}
+use Rattle.std.proofs.Common.{◌/◌, ◌+◌, subst, sym, ap, ◌∙◌}
 use Rattle.ctl_form.specs.BitRow.{AreMet}
 use Rattle.ctl_form.proofs.Bits.{IsRowOf-met, length_held}
 use Rattle.ctl_form.proofs.bit_row.BitRow.and.Goals as goal

@@ -1,4 +1,4 @@
-use Rattle.std.proofs.Common.{◌+◌, ◌/◌, ◌∙◌, ap, false, replicate, slice_index_or, arith}
+use Rattle.std.proofs.Common.{◌+◌, ◌/◌, false, arith}
 use Rattle.std.proofs.lemmas.List.{get_or-replicate, length-replicate}
 use Rattle.ctl_form.proofs.Bits.{row_of-zeros}
 use Rattle.ctl_form.proofs.Rows.{IsRowOf-none}
