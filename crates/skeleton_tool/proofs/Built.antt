@@ -1,14 +1,13 @@
 -- The kept labels with all moves between them are a structure over the roles.
-use Rattle.std.proofs.Common.{ℕ, ◌≡◌, ◌<◌, ◌⊎◌, inl, inr, List, [], ◌∷◌, length, Contains, All, Any, Bool, Some, get_or, slice_get, slice_index_or, subst, sym, ap, ◌∙◌, refl}
-use Rattle.std.proofs.lemmas.List.{get_or_default}
-use Rattle.std.proofs.lemmas.List.Elements.{All-contains, Contains-get_or}
+use Rattle.std.proofs.Common.{ℕ, ◌≡◌, ◌<◌, ◌⊎◌, inl, inr, List, length, Contains, Any, Bool, get_or, slice_index_or, subst, sym, ap, refl}
+use Rattle.std.proofs.lemmas.List.Elements.{Contains-get_or}
 use Rattle.pair_structure.specs.declared.side.Side.{Side}
 use Rattle.pair_structure.specs.declared.side.Side.TheVariants.{A, B}
 use Rattle.pair_structure.specs.declared.side.Move.{Move}
 use Rattle.pair_structure.specs.declared.side.LocalArc.{LocalArc}
 use Rattle.pair_structure.specs.Role.{RoleParts, HasArc}
-use Rattle.pair_structure.specs.Structure.{Structure, HasMove, Reaches, GoesOn, IsOver, IsPairStructure, IsLawfulMove, IsRising, IsLabel, TakesArc, OtherStays, label_at}
-use Rattle.skeleton_tool.specs.Labels.{Keeps, IsSupported, HasNumber, IsNumbered, LeadsOn, local_of, with_local, number_at, move_by, IsMoveBy, HasMovesBy, HasAllMoves, Follows, IsBuilt}
+use Rattle.pair_structure.specs.Structure.{Structure, Reaches, GoesOn, IsPairStructure, IsLawfulMove, IsRising, IsLabel, TakesArc, OtherStays, label_at}
+use Rattle.skeleton_tool.specs.Labels.{Keeps, IsSupported, IsNumbered, LeadsOn, local_of, with_local, number_at, move_by, IsMoveBy, HasAllMoves, IsBuilt}
 
 -- what the structure is built from
 pub record IsGround (a b : RoleParts) (table : List (List Bool)) (numbers : List (List ℕ)) (states : List (ℕ × ℕ)) (moves : List Move) : Type 0 where

@@ -1,15 +1,14 @@
 -- What a structure that satisfies its free arcs meets is supported.
-use Rattle.std.proofs.Common.{ℕ, ◌≡◌, ◌<◌, ◌⊎◌, ◌++◌, List, [], ◌∷◌, length, Contains, All, Any, Bool, true, false, Some, refl, get_or, slice_get, slice_index_or, filter, map, subst, ap, sym, ◌∙◌, inl, inr}
+use Rattle.std.proofs.Common.{ℕ, ◌≡◌, ◌<◌, ◌⊎◌, ◌++◌, List, [], ◌∷◌, length, Contains, Any, Bool, true, false, Some, refl, get_or, filter, subst, ap, sym, ◌∙◌, inl, inr}
 use Rattle.std.proofs.lemmas.List.{get_or_default}
 use Rattle.std.proofs.lemmas.Option.{slice_get_within, slice_get-get_or, get_or_from_slice_get}
 use Rattle.std.proofs.lemmas.List.Elements.{All-contains, Contains-append_left, Contains-append_right}
 use Rattle.pair_structure.specs.declared.side.Side.{Side}
 use Rattle.pair_structure.specs.declared.side.Side.TheVariants.{A, B}
 use Rattle.pair_structure.specs.declared.side.LocalArc.{LocalArc}
-use Rattle.pair_structure.specs.declared.side.Move.{Move}
-use Rattle.pair_structure.specs.Role.{RoleParts, HasArc}
+use Rattle.pair_structure.specs.Role.{RoleParts}
 use Rattle.pair_structure.specs.Structure.{Structure, HasMove, Reaches, IsOver, IsLawfulMove, label_at}
-use Rattle.ctl_form.specs.Form.{Form, at, implies, next, always}
+use Rattle.ctl_form.specs.Form.{Form, at, implies, next}
 use Rattle.ctl_form.specs.Path.{IsPath, last_of, EachUnless}
 use Rattle.ctl_form.specs.Truth.{Holds, HasLocal}
 use Rattle.ctl_form.specs.Kind.{free_form, free_forms, whole_forms, Satisfies}

@@ -1,21 +1,21 @@
 -- A proposition is true at a state exactly where it is true at the state's label.
-use Rattle.std.proofs.Common.{ℕ, ◌≡◌, ◌<◌, ◌⊎◌, ◌==◌, inl, inr, List, [], ◌∷◌, ◌++◌, length, Contains, All, Bool, true, false, refl, sym, ◌∙◌, ap, subst, Some, slice_get, get_or, not, ◌&&◌, ◌||◌, filter, cond, map}
+use Rattle.std.proofs.Common.{ℕ, ◌≡◌, ◌<◌, ◌⊎◌, inl, inr, List, [], ◌∷◌, ◌++◌, length, All, Bool, true, false, refl, sym, ◌∙◌, ap, subst, Some, slice_get, get_or, not, ◌&&◌, ◌||◌, filter, cond, map}
 use Rattle.std.proofs.lemmas.Bool.{eqb-true, eq-eqb}
-use Rattle.std.proofs.lemmas.List.{get_or_default, get_or-map, length-map}
+use Rattle.std.proofs.lemmas.List.{get_or-map, length-map}
 use Rattle.std.proofs.lemmas.Option.{same_Some, slice_get-get_or, get_or_from_slice_get}
 use Rattle.std.proofs.lemmas.List.Elements.{All-contains, All-nil, All-cons, All-head, All-tail, All-map, All-append, Contains-append_left, Contains-append_right, Contains-get_or}
 use Rattle.pair_structure.specs.declared.side.Side.{Side}
 use Rattle.pair_structure.specs.declared.side.Side.TheVariants.{A, B}
 use Rattle.pair_structure.specs.declared.side.LocalArc.{LocalArc}
 use Rattle.pair_structure.specs.Role.{RoleParts}
-use Rattle.pair_structure.specs.Structure.{Structure, HasMove, Reaches, IsOver, IsLabel, label_at}
+use Rattle.pair_structure.specs.Structure.{Structure, HasMove, Reaches, IsOver, label_at}
 use Rattle.ctl_form.specs.declared.formula.Formula.{Formula}
 use Rattle.ctl_form.specs.Form.{form_of, Form, truth, falsity, at, neg, both, either, implies, next, always, sometime, until}
 use Rattle.ctl_form.specs.Path.{IsPath, last_of, EachUnless}
 use Rattle.ctl_form.specs.Truth.{Holds, HasLocal}
 use Rattle.ctl_form.specs.Kind.{free_form, free_forms, whole_forms, Satisfies}
 use Rattle.skeleton_tool.specs.Proposition.{is_proposition, is_plain, is_true_at, allows, AllowAll}
-use Rattle.skeleton_tool.specs.Labels.{Keeps, KeepsPaths, IsSupported, LeadsOn, with_local, Follows, IsBuilt}
+use Rattle.skeleton_tool.specs.Labels.{Keeps, KeepsPaths, IsSupported, LeadsOn, IsBuilt}
 use Rattle.skeleton_tool.proofs.Live.{always_at_end, path_within, zero_within}
 
 -- a test that is right about a fact

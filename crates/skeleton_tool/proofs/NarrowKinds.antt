@@ -1,5 +1,5 @@
 -- A kind whose roles and clauses pass the tests is narrow.
-use Rattle.std.proofs.Common.{ℕ, ◌≡◌, ◌<◌, ◌≤◌, List, length, get_or, map, All, subst}
+use Rattle.std.proofs.Common.{◌≡◌, ◌≤◌, List, length, get_or, map, All, subst}
 use Rattle.std.proofs.lemmas.List.Elements.{All-map}
 use Rattle.pair_structure.specs.Role.{RoleParts}
 use Rattle.ctl_form.specs.declared.formula.Formula.{Formula}

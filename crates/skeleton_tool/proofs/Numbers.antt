@@ -1,5 +1,5 @@
 -- Labels get their numbers one after another.
-use Rattle.std.proofs.Common.{ℕ, ◌≡◌, ◌<◌, ◌+◌, ◌++◌, ◌⊎◌, ◌==◌, ◌&&◌, not, true, false, inl, inr, List, [], ◌∷◌, length, Contains, All, Bool, Some, slice_get, get_or, subst, sym, ap, ◌∙◌, refl, arith}
+use Rattle.std.proofs.Common.{ℕ, ◌≡◌, ◌<◌, ◌+◌, ◌++◌, ◌⊎◌, ◌==◌, ◌&&◌, not, true, false, inl, inr, List, [], ◌∷◌, length, Contains, Bool, Some, slice_get, get_or, subst, sym, ap, ◌∙◌, refl, arith}
 use Rattle.std.proofs.lemmas.Bool.{eqb-true}
 use Rattle.std.proofs.lemmas.List.Elements.{All-push, Contains-get_or}
 use Rattle.skeleton_tool.specs.Labels.{Keeps, HasNumber, IsNumbered, IsNumbering}

@@ -1,5 +1,5 @@
 -- One label is thrown out: what the others need stays, or is looked at again.
-use Rattle.std.proofs.Common.{ℕ, ◌≡◌, ◌≢◌, ◌⊎◌, ◌<◌, ◌==◌, ◌&&◌, ◌++◌, List, [], ◌∷◌, length, Bool, true, false, get_or, Any, Contains, subst, ap, sym, ◌∙◌, inl, inr, refl}
+use Rattle.std.proofs.Common.{ℕ, ◌≡◌, ◌≢◌, ◌⊎◌, ◌==◌, ◌&&◌, ◌++◌, List, [], ◌∷◌, Bool, true, false, get_or, Any, Contains, subst, ap, sym, ◌∙◌, inl, inr, refl}
 use Rattle.std.proofs.Math.Decide.{ℕ_discrete}
 use Rattle.std.proofs.lemmas.List.{get_or_default}
 use Rattle.std.proofs.lemmas.List.Elements.{Contains-push_cases}
@@ -8,9 +8,7 @@ use Rattle.std.specs.List.{list_any}
 use Rattle.std.proofs.lemmas.Bool.{eqb-true, eq-eqb}
 use Rattle.pair_structure.specs.declared.side.LocalArc.{LocalArc}
 use Rattle.pair_structure.specs.Role.{RoleParts, HasArc}
-use Rattle.pair_structure.specs.Structure.{Structure, label_at}
-use Rattle.ctl_form.specs.Form.{Form}
-use Rattle.ctl_form.specs.Path.{IsPath, last_of}
+use Rattle.pair_structure.specs.Structure.{Structure}
 use Rattle.ctl_form.specs.Kind.{Satisfies}
 use Rattle.skeleton_tool.specs.Labels.{keeps, Keeps, IsSupported, KeepsPaths, Precedes}
 use Rattle.skeleton_tool.proofs.Live.{live_supported}

@@ -1,5 +1,5 @@
 -- Rows and tables of flags that are set one after another.
-use Rattle.std.proofs.Common.{ℕ, ◌≡◌, ◌≢◌, ◌<◌, ◌≤◌, ◌+◌, ◌↔◌, List, [], length, Bool, true, false, IsTrue, slice_index_or, slice_set, replicate, get_or-set_same, get_or-set_other, arith, refl, sym, ◌∙◌, ap, subst}
+use Rattle.std.proofs.Common.{ℕ, ◌≡◌, ◌<◌, ◌≤◌, ◌+◌, ◌↔◌, List, [], length, Bool, true, false, IsTrue, slice_index_or, slice_set, replicate, get_or-set_same, get_or-set_other, arith, sym, ◌∙◌, ap, subst}
 use Rattle.std.proofs.Math.Decide.{dec_lt, ℕ_discrete}
 use Rattle.std.proofs.lemmas.List.{get_or_past, get_or-replicate, length-replicate}
 use Rattle.ctl_form.specs.declared.formula.Formula.{Formula}

@@ -1,5 +1,5 @@
 -- One more kind is solved, or is the first that cannot be.
-use Rattle.std.proofs.Common.{ℕ, ◌≡◌, ◌<◌, ◌+◌, zero, suc, List, [], ◌∷◌, ◌++◌, length, get_or, take, map, All, ap, ◌∙◌, sym, subst, refl, append_assoc, append-nil, arith, true}
+use Rattle.std.proofs.Common.{ℕ, ◌≡◌, ◌<◌, ◌+◌, zero, suc, List, [], ◌∷◌, ◌++◌, length, get_or, take, map, All, ap, ◌∙◌, sym, subst, append_assoc, append-nil, arith, true}
 use Rattle.std.proofs.lemmas.List.{take_more, get_or_default, get_or-map, length-map, get_or-take, length-take-le}
 use Rattle.pair_structure.specs.Role.{RoleParts}
 use Rattle.pair_structure.specs.Structure.{Structure}

@@ -1,5 +1,5 @@
 -- What a call answers: a status, the text that belongs to it, and when it may come.
-use Rattle.std.specs.Prelude.{ℕ, ◌≡◌, ◌≢◌, ◌<◌, ◌≤◌, ◌⊎◌, Option, Some, None, IfSome, List, [], ◌++◌, codes, length, slice_index_or}
+use Rattle.std.specs.Prelude.{ℕ, ◌≡◌, ◌<◌, ◌≤◌, ◌⊎◌, Option, Some, None, IfSome, List, [], ◌++◌, codes, length, slice_index_or}
 use Rattle.edge_io.specs.Counts.{Rose}
 use Rattle.edge_io.specs.Told.{file_named, HasLonger, Appends, AppendsPrefix}
 use Rattle.pair_structure.specs.Role.{RoleParts}
@@ -8,7 +8,7 @@ use Rattle.ctl_form.specs.declared.pair_spec.PairSpec.{PairSpec}
 use Rattle.ctl_form.specs.Kind.{SatisfiesKind, Solves}
 use Rattle.skeleton_tool.specs.declared.status.Status.{Status}
 use Rattle.skeleton_tool.specs.declared.status.Status.TheVariants.{Done, Usage, Refused, Unsatisfiable, ReadFault, WriteFault, OutOfMemory}
-use Rattle.skeleton_tool.specs.Command.{Command, synth, command_of, usage_text, spec_limit}
+use Rattle.skeleton_tool.specs.Command.{synth, command_of, usage_text, spec_limit}
 use Rattle.skeleton_tool.specs.Status.{code_of}
 use Rattle.skeleton_tool.specs.Narrow.{IsNarrow}
 use Rattle.skeleton_tool.specs.SolutionText.{solution_text}

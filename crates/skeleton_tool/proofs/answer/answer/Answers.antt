@@ -1,4 +1,4 @@
-use Rattle.std.proofs.Common.{ℕ, ◌≡◌, List, [], ◌∷◌, Option, Some, All, subst, sym}
+use Rattle.std.proofs.Common.{ℕ, ◌≡◌, List, [], Option, Some, All, subst, sym}
 use Rattle.std.proofs.lemmas.List.Elements.{All-head}
 use Rattle.skeleton_tool.specs.Command.{Command, synth, command_of, asked_files, words_of, spec_limit}
 use Rattle.skeleton_tool.proofs.answer.answer.Goals as goal

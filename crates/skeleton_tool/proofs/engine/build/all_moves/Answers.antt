@@ -1,5 +1,5 @@
-use Rattle.std.proofs.Common.{arith, length}
-use Rattle.skeleton_tool.proofs.AllMoves.{IsAllMoves, one_state_more, all_moves_in}
+use Rattle.std.proofs.Common.{arith}
+use Rattle.skeleton_tool.proofs.AllMoves.{one_state_more, all_moves_in}
 use Rattle.skeleton_tool.proofs.engine.build.all_moves.Goals as goal
 
 pub loop-s-preserved : goal.loop-s-preserved

@@ -1,4 +1,4 @@
-use Rattle.std.proofs.Common.{◌≡◌, true, false, IsTrue, refl}
+use Rattle.std.proofs.Common.{false, IsTrue, refl}
 use Rattle.skeleton_tool.proofs.Moved.{moved, unmoved}
 use Rattle.skeleton_tool.proofs.engine.build.push_moves.Goals as goal
 use Rattle.skeleton_tool.proofs.engine.build.push_moves.Goals.{then-leads_on+in_ok-push, else-leads_on}

@@ -1,4 +1,4 @@
-use Rattle.skeleton_tool.proofs.Built.{IsGround, built_lawful, built}
+use Rattle.skeleton_tool.proofs.Built.{built_lawful, built}
 use Rattle.skeleton_tool.proofs.engine.build.structure.Goals as goal
 
 pub made-requires : goal.made-requires

@@ -1,5 +1,5 @@
-use Rattle.std.proofs.Common.{◌≡◌, ◌<◌, length, arith, length-set, refl}
-use Rattle.skeleton_tool.proofs.Rows.{IsTable, AllowsWithin, no_labels, one_row_more}
+use Rattle.std.proofs.Common.{◌<◌, length, arith, length-set, refl}
+use Rattle.skeleton_tool.proofs.Rows.{AllowsWithin, no_labels, one_row_more}
 use Rattle.skeleton_tool.proofs.engine.label.allowed.Goals as goal
 
 pub loop-p-init : goal.loop-p-init

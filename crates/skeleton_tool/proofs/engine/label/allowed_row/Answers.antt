@@ -1,5 +1,5 @@
-use Rattle.std.proofs.Common.{◌≡◌, ◌<◌, length, arith, length-set, refl}
-use Rattle.skeleton_tool.proofs.Rows.{IsRow, AllowsAt, no_flags, one_flag_more}
+use Rattle.std.proofs.Common.{◌<◌, length, arith, length-set, refl}
+use Rattle.skeleton_tool.proofs.Rows.{AllowsAt, no_flags, one_flag_more}
 use Rattle.skeleton_tool.proofs.engine.label.allowed_row.Goals as goal
 
 pub loop-q-init : goal.loop-q-init

@@ -1,4 +1,4 @@
-use Rattle.std.proofs.Common.{ℕ, ◌≡◌, ◌<◌, Contains, below_more, length, arith, inl, inr, sym, ap, ◌∙◌, slice_index_or, false, []}
+use Rattle.std.proofs.Common.{ℕ, ◌<◌, Contains, below_more, length, arith, inl, inr, ap, ◌∙◌, slice_index_or, false, []}
 use Rattle.skeleton_tool.specs.Labels.{Keeps}
 use Rattle.skeleton_tool.proofs.Tables.{keeps_within}
 use Rattle.skeleton_tool.proofs.engine.label.kept_labels.Goals as goal

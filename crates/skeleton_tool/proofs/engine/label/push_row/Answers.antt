@@ -1,4 +1,4 @@
-use Rattle.std.proofs.Common.{ℕ, ◌≡◌, ◌<◌, Contains, below_more, true, false, slice_index_or, length, arith, inl, inr, sym, ap, ◌∙◌, subst}
+use Rattle.std.proofs.Common.{ℕ, ◌≡◌, ◌<◌, below_more, false, slice_index_or, length, arith, inl, inr, sym, ap, ◌∙◌, subst}
 use Rattle.std.proofs.lemmas.List.Elements.{Contains-append_left, Contains-push, Contains-push_cases}
 use Rattle.skeleton_tool.proofs.Tables.{flag_within}
 use Rattle.skeleton_tool.proofs.engine.label.push_row.Goals as goal

@@ -1,4 +1,3 @@
-use Rattle.std.proofs.Common.{◌≡◌, [], ◌∷◌}
 use Rattle.skeleton_tool.proofs.Numbers.{one_numbered, start_passed, same_label}
 use Rattle.skeleton_tool.proofs.engine.numbering.number_among.Goals as goal
 use Rattle.skeleton_tool.proofs.engine.numbering.number_among.Goals.{then-ne+in_ok-add-2, else-ne}

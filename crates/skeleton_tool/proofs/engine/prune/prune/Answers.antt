@@ -1,6 +1,5 @@
-use Rattle.std.proofs.Common.{◌≡◌, inr, true, false, refl, IsTrue}
-use Rattle.skeleton_tool.specs.Labels.{Keeps}
-use Rattle.skeleton_tool.proofs.Pruning.{IsPruning, passed_over, thrown_out}
+use Rattle.std.proofs.Common.{inr, false, refl, IsTrue}
+use Rattle.skeleton_tool.proofs.Pruning.{passed_over, thrown_out}
 use Rattle.skeleton_tool.proofs.engine.prune.prune.Goals as goal
 use Rattle.skeleton_tool.proofs.engine.prune.prune.Goals.{else-keeps-via-then-keeps+else-not-is_supported, else-keeps-via-else-keeps}
 

@@ -1,4 +1,3 @@
-use Rattle.std.proofs.Common.{inl, inr}
 use Rattle.skeleton_tool.proofs.Before.{precedes_cases}
 use Rattle.skeleton_tool.proofs.engine.prune.push_before.Goals as goal
 

@@ -1,6 +1,6 @@
-use Rattle.std.proofs.Common.{◌≤◌, ◌+◌, arith, vec_len}
+use Rattle.std.proofs.Common.{arith}
 use Rattle.skeleton_tool.specs.Labels.{with_b}
-use Rattle.skeleton_tool.proofs.Before.{HasBefore, pushed_before, passed_before, all_before}
+use Rattle.skeleton_tool.proofs.Before.{pushed_before, passed_before, all_before}
 use Rattle.skeleton_tool.proofs.engine.prune.push_before_b.Goals as goal
 use Rattle.skeleton_tool.proofs.engine.prune.push_before_b.Goals.{then-arc-label+in_ok-push, else-arc-label}
 

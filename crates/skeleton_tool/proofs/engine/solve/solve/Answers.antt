@@ -1,5 +1,3 @@
-use Rattle.std.proofs.Common.{◌≡◌, refl, sym, ◌∙◌, true, false}
-use Rattle.skeleton_tool.specs.Labels.{keeps}
 use Rattle.skeleton_tool.proofs.Meaning.{none_satisfies, built_satisfies}
 use Rattle.skeleton_tool.proofs.engine.solve.solve.Goals as goal
 
