@@ -1,12 +1,12 @@
--- A form as a list of numbers, so that a `Model` may have forms in its value.
+-- A formula's tree as a list of numbers and back, which a `Model` with trees in its value has to show. Equal numbers are those of equal trees.
 use Rattle.std.specs.Prelude.{ℕ, zero, suc, ◌≡◌, ◌+◌, ◌≤◌, Bool, true, false, Option, Some, None, List, [], ◌∷◌, ◌++◌, refl}
-use Rattle.std.proofs.Common.{length, length-append, subst, ap, ◌∙◌, arith, append_assoc, append-nil, sym}
+use Rattle.std.proofs.Common.{length, length-append, subst, ap, arith, append_assoc, append-nil, sym, ◌∙◌}
 use Rattle.std.specs.Coded.{Coded, code_by, coded_list, coded_ℕ}
 use Rattle.pair_structure.specs.declared.side.Side.{Side}
 use Rattle.pair_structure.specs.declared.side.Side.TheVariants.{A, B}
 use Rattle.ctl_form.specs.Form.{Form, truth, falsity, at, neg, both, either, implies, next, always, sometime, until}
 
-abbrev bit : Bool → ℕ
+abbrev pub bit : Bool → ℕ
 bit true = 1
 bit false = 0
 
@@ -14,7 +14,7 @@ abbrev is_one : ℕ → Bool
 is_one zero = false
 is_one (suc n) = true
 
-abbrev side_digit : Option Side → ℕ
+abbrev pub side_digit : Option Side → ℕ
 side_digit None = 0
 side_digit (Some A) = 1
 side_digit (Some B) = 2
@@ -28,11 +28,12 @@ abbrev one_side : ℕ → Side
 one_side zero = A
 one_side (suc n) = B
 
-abbrev one_digit : Side → ℕ
+abbrev pub one_digit : Side → ℕ
 one_digit A = 0
 one_digit B = 1
 
-abbrev numbers : Form → List ℕ
+-- each operator with its number, then what it says, then its parts
+abbrev pub numbers : Form → List ℕ
 numbers truth = 0 ∷ []
 numbers falsity = 1 ∷ []
 numbers (at s p) = 2 ∷ one_digit s ∷ p ∷ []
@@ -139,6 +140,10 @@ height_within (until all weak f g) = omega (arith, height_within f, height_withi
 
 pub form_back : (f : Form) → (read (length (numbers f)) (numbers f)).0 ≡ f
 form_back f = ap (λ (r : Form × List ℕ). r.0) (subst (λ ns. read (length (numbers f)) ns ≡ (f, [])) (append-nil (numbers f)) (read_back f (length (numbers f)) [] (height_within f)))
+
+-- equal numbers are those of equal trees
+pub numbers_same : (f g : Form) → numbers f ≡ numbers g → f ≡ g
+numbers_same f g e = sym (form_back f) ∙ ap (λ ns. (read (length ns) ns).0) e ∙ form_back g
 
 -- the code of a form
 abbrev pub form_code : Coded Form

@@ -1,8 +1,10 @@
--- A formula as a tree, without where it lies in memory.
+-- A formula of CTL as a tree, without where it lies in memory.
 use Rattle.std.specs.Prelude.{ℕ, Bool, Option}
 use Rattle.pair_structure.specs.declared.side.Side.{Side}
 use Rattle.ctl_form.specs.declared.formula.Formula.{Formula, Yes, No, At, Not', And', Or', Implies', Next', Always', Sometime', Until'}
 
+-- `at` names a side and a local state; `next all side f` is after each move or some, of one side or of either; in `until all weak f g`
+-- the paths are all or some, and a weak until may wait for g without end
 pub data Form : Type 0 where
   truth : Form
   falsity : Form
@@ -16,6 +18,7 @@ pub data Form : Type 0 where
   sometime : Bool → Form → Form
   until : Bool → Bool → Form → Form → Form
 
+-- the tree of a formula of the program
 abbrev pub form_of : Formula → Form
 form_of Yes = truth
 form_of No = falsity

@@ -5,7 +5,7 @@ use Rattle.pair_structure.specs.declared.side.Side.TheVariants.{A, B}
 use Rattle.pair_structure.specs.declared.side.LocalArc.{LocalArc}
 use Rattle.pair_structure.specs.Role.{RoleParts}
 use Rattle.pair_structure.specs.Structure.{Structure, IsOver}
-use Rattle.ctl_form.specs.declared.kind.PairSpec.{PairSpec}
+use Rattle.ctl_form.specs.declared.pair_spec.PairSpec.{PairSpec}
 use Rattle.ctl_form.specs.Form.{Form, at, implies, next, always}
 use Rattle.ctl_form.specs.Truth.{Holds}
 

@@ -1,7 +1,14 @@
+pub mod BitRow
 pub mod Code
 pub mod Form
 pub mod Kind
 pub mod Laws
+pub mod Next
+pub mod Normal
 pub mod Path
+pub mod Predecessors
 pub mod Rounds
+pub mod Row
+pub mod Solving
+pub mod Spread
 pub mod Truth

@@ -1,14 +1,30 @@
-//! Formulas of CTL over a pair, and their truth.
+//! Formulas of CTL over the two processes of a pair: what they say of a structure, and what a kind of pairs asks.
 #![tactic(auto)]
 
+mod bit_row;
+mod clauses;
+mod code;
 mod conjuncts;
-mod copier;
+mod cursors;
 mod formula;
-mod kind;
+mod holds;
 mod laws;
+mod next_row;
+mod pair_spec;
+mod predecessors;
+#[cfg(test)]
+mod samples;
+mod solving;
+mod until_row;
 
+pub use bit_row::BitRow;
+pub use clauses::Clauses;
 pub use conjuncts::whole;
-pub use copier::copy;
 pub use formula::Formula;
-pub use kind::{Clauses, PairSpec};
-pub use laws::always_goes_on;
+pub use holds::holds_at;
+pub use laws::{
+    always_expands, always_goes_on, each_unless_expands, each_until_expands, normal_means,
+    some_unless_expands, some_until_expands, sometime_expands, truth_is_decided, until_expands,
+};
+pub use pair_spec::PairSpec;
+pub use solving::solves;

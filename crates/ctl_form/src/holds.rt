@@ -1,0 +1,142 @@
+ghost use Rattle.std.specs.Prelude.{◌≡◌, ◌↔◌, ℕ, length, true, IsTrue, IfOk};
+ghost use Rattle.pair_structure.specs.Structure.{GoesOn};
+ghost use Rattle.ctl_form.specs.Form.{form_of};
+ghost use Rattle.ctl_form.specs.Predecessors.{ArePredecessors};
+ghost use Rattle.ctl_form.specs.Row.{IsAt, IsRowOf, IsTruthOf, local_of};
+ghost use Rattle.ctl_form.specs.Truth.{AlongPaths, HasLocal};
+
+use crate::next_row::next_row;
+use crate::predecessors::Predecessors;
+use crate::until_row::until_row;
+use crate::{BitRow, Formula};
+use pair_structure::{Memory, PairStructure, Side};
+use std::alloc::Global;
+
+/// The truth of a formula at every state. Linear in states and moves, for each operator of the formula.
+pub fn holds_at(alloc: Global, m: &PairStructure, f: &Formula) -> Result<BitRow, Memory>
+    ensures { IfOk result (IsTruthOf m.now (form_of f.now)) }
+{
+    let predecessors = Predecessors::of(alloc, m)?;
+    truth_row(alloc, m, &predecessors, f)
+}
+
+/// The same, for many formulas on one structure.
+pub(crate) fn truth_row(
+    alloc: Global,
+    m: &PairStructure,
+    predecessors: &Predecessors,
+    f: &Formula,
+) -> Result<BitRow, Memory>
+    requires { ArePredecessors m.now predecessors.now.begins.items predecessors.now.sources.items }
+    ensures { IfOk result (IsTruthOf m.now (form_of f.now)) }
+{
+    let states = m.states().len();
+    match f {
+        Formula::Yes => BitRow::all(alloc, states),
+        Formula::No => BitRow::none(alloc, states),
+        Formula::At { side, local } => local_row(alloc, m, *side, *local),
+        Formula::Not(f) => truth_row(alloc, m, predecessors, f)?.not(alloc),
+        Formula::And(f, g) => {
+            let p = truth_row(alloc, m, predecessors, f)?;
+            let q = truth_row(alloc, m, predecessors, g)?;
+            p.and(alloc, &q)
+        }
+        Formula::Or(f, g) => {
+            let p = truth_row(alloc, m, predecessors, f)?;
+            let q = truth_row(alloc, m, predecessors, g)?;
+            p.or(alloc, &q)
+        }
+        Formula::Implies(f, g) => {
+            let p = truth_row(alloc, m, predecessors, f)?;
+            let q = truth_row(alloc, m, predecessors, g)?;
+            p.implies(alloc, &q)
+        }
+        Formula::Next { all, side, f } => {
+            let p = truth_row(alloc, m, predecessors, f)?;
+            next_row(alloc, m, *all, *side, &p)
+        }
+        Formula::Always { all, f } => {
+            let p = truth_row(alloc, m, predecessors, f)?;
+            let never = BitRow::none(alloc, states)?;
+            along_row(alloc, m, predecessors, *all, true, &p, &never)
+        }
+        Formula::Sometime { all, f } => {
+            let p = truth_row(alloc, m, predecessors, f)?;
+            let ever = BitRow::all(alloc, states)?;
+            along_row(alloc, m, predecessors, *all, false, &ever, &p)
+        }
+        Formula::Until { all, weak, f, g } => {
+            let p = truth_row(alloc, m, predecessors, f)?;
+            let q = truth_row(alloc, m, predecessors, g)?;
+            along_row(alloc, m, predecessors, *all, *weak, &p, &q)
+        }
+    }
+}
+
+/// An until of any of the four kinds.
+fn along_row(
+    alloc: Global,
+    m: &PairStructure,
+    predecessors: &Predecessors,
+    all: bool,
+    weak: bool,
+    p: &BitRow,
+    q: &BitRow,
+) -> Result<BitRow, Memory>
+    requires goes_on { GoesOn m.now }
+    requires predecessors { ArePredecessors m.now predecessors.now.begins.items predecessors.now.sources.items }
+    requires p_long { length p.now ≡ length m.now.states }
+    requires q_long { length q.now ≡ length m.now.states }
+    ensures { IfOk result (IsRowOf (length m.now.states) (AlongPaths m.now all weak (IsAt p.now) (IsAt q.now))) }
+{
+    if weak {
+        unless_row(alloc, m, predecessors, all, p, q)
+    } else {
+        until_row(alloc, m, predecessors, all, p, q)
+    }
+}
+
+/// A weak until fails where, over the other choice of paths, q does not come to hold before both fail.
+fn unless_row(
+    alloc: Global,
+    m: &PairStructure,
+    predecessors: &Predecessors,
+    all: bool,
+    p: &BitRow,
+    q: &BitRow,
+) -> Result<BitRow, Memory>
+    requires goes_on { GoesOn m.now }
+    requires predecessors { ArePredecessors m.now predecessors.now.begins.items predecessors.now.sources.items }
+    requires p_long { length p.now ≡ length m.now.states }
+    requires q_long { length q.now ≡ length m.now.states }
+    ensures { IfOk result (IsRowOf (length m.now.states) (AlongPaths m.now all true (IsAt p.now) (IsAt q.now))) }
+{
+    let not_p = p.not(alloc)?;
+    let not_q = q.not(alloc)?;
+    let neither = not_p.and(alloc, &not_q)?;
+    let fails = until_row(alloc, m, predecessors, !all, &not_q, &neither)?;
+    fails.not(alloc)
+}
+
+/// The states where the side is in this local state. One pass over the states.
+fn local_row(alloc: Global, m: &PairStructure, side: Side, local: u8) -> Result<BitRow, Memory>
+    ensures { IfOk result (IsRowOf (length m.now.states) (HasLocal m.now side local)) }
+{
+    let states = m.states();
+    let mut row = BitRow::none(alloc, states.len())?;
+    for state in 0..states.len() {
+        if local_of(states[state], side) == local {
+            row.add(state as u64);
+        }
+    }
+    Ok(row)
+}
+
+fn local_of(label: (u8, u8), side: Side) -> u8
+    ensures { result ≡ local_of label side }
+{
+    match side {
+        Side::A => label.0,
+        Side::B => label.1,
+    }
+}

@@ -1,0 +1,77 @@
+ghost use Rattle.std.specs.Prelude.{◌≡◌, ◌<◌, ◌↔◌, length, map, All, IsTrue, IfOk, OnOk};
+ghost use Rattle.pair_structure.specs.Structure.{IsOver};
+ghost use Rattle.ctl_form.specs.Form.{form_of};
+ghost use Rattle.ctl_form.specs.Kind.{Satisfies};
+ghost use Rattle.ctl_form.specs.Predecessors.{ArePredecessors};
+ghost use Rattle.ctl_form.specs.Solving.{IsKnown};
+ghost use Rattle.ctl_form.specs.Truth.{Holds};
+
+use crate::code::code_of;
+use crate::holds::truth_row;
+use crate::predecessors::Predecessors;
+use crate::{Formula, PairSpec, whole};
+use pair_structure::{Memory, PairStructure, Role};
+use std::alloc::Global;
+use std::collections::BTreeSet;
+
+/// Whether the structure satisfies the kind. A formula that stands several times is labelled once and looked up after that, so n formulas
+/// of which k differ cost k labellings and n look-ups among k.
+pub fn solves(
+    alloc: Global,
+    m: &PairStructure,
+    spec: &PairSpec,
+    a: &Role,
+    b: &Role,
+) -> Result<bool, Memory>
+    requires { IsOver a.now b.now m.now }
+    ensures { IfOk result (λ yes. IsTrue yes ↔ Satisfies a.now b.now spec.now.clauses m.now) }
+{
+    let forms = whole(alloc, spec, a, b)?;
+    let predecessors = Predecessors::of(alloc, m)?;
+    each_holds(alloc, m, &predecessors, &forms)
+}
+
+/// Whether each of the formulas holds at state 0.
+fn each_holds(
+    alloc: Global,
+    m: &PairStructure,
+    predecessors: &Predecessors,
+    forms: &[Formula],
+) -> Result<bool, Memory>
+    requires predecessors { ArePredecessors m.now predecessors.now.begins.items predecessors.now.sources.items }
+    requires begins { 0 < length m.now.states }
+    ensures { IfOk result (λ yes. IsTrue yes ↔ All (λ f. Holds m.now f 0) (map form_of forms.now)) }
+{
+    let mut known = BTreeSet::new(alloc);
+    for form in forms {
+        if !holds_first(alloc, m, predecessors, &mut known, form)? {
+            return Ok(false);
+        }
+    }
+    Ok(true)
+}
+
+/// Whether the formula holds at state 0. `known` has the codes of formulas that do.
+fn holds_first(
+    alloc: Global,
+    m: &PairStructure,
+    predecessors: &Predecessors,
+    known: &mut BTreeSet<Vec<u8>>,
+    form: &Formula,
+) -> Result<bool, Memory>
+    requires predecessors { ArePredecessors m.now predecessors.now.begins.items predecessors.now.sources.items }
+    requires begins { 0 < length m.now.states }
+    requires known { All (λ code. IsKnown m.now code.items) known.old.keys }
+    ensures holds { IfOk result (λ yes. IsTrue yes ↔ Holds m.now (form_of form.now) 0) }
+    ensures known { OnOk result (All (λ code. IsKnown m.now code.items) known.new.keys) }
+{
+    let code = code_of(alloc, form)?;
+    if known.contains(&code) {
+        return Ok(true);
+    }
+    let holds = truth_row(alloc, m, predecessors, form)?.has(0);
+    if holds {
+        known.insert(code)?;
+    }
+    Ok(holds)
+}

@@ -1,0 +1,2 @@
+pub mod AppendsLaws
+pub mod CountsLaws

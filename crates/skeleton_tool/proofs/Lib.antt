@@ -1,0 +1,14 @@
+pub mod Lists
+pub mod Before
+pub mod Tables
+pub mod Live
+pub mod Pruning
+pub mod Rows
+pub mod Numbers
+pub mod Moved
+pub mod Built
+pub mod AllMoves
+pub mod Meaning
+pub mod Roles
+pub mod Solved
+pub mod NarrowKinds

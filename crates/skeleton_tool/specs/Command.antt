@@ -1,0 +1,32 @@
+-- The words of a call, and the command that they are.
+use Rattle.std.specs.Prelude.{ℕ, ◌==◌, ◌&&◌, not, Bool, false, Option, Some, None, List, [], ◌∷◌, codes, map, String, string_bytes, if◌then◌else◌}
+use Rattle.std.specs.declared.alloc.Global.{Global}
+use Rattle.std.specs.Str.{bytes_eq}
+
+pub data Command : Type 0 where
+  synth : List ℕ → Command
+
+-- 45 is '-'
+abbrev pub begins_with_dash : List ℕ → Bool
+begins_with_dash [] = false
+begins_with_dash (first ∷ rest) = first == 45
+
+-- the name of the command, and as many words as it takes, of which none begins with a dash
+abbrev pub command_of : List (List ℕ) → Option Command
+command_of (name ∷ spec ∷ []) = if bytes_eq name (codes "synth") && not (begins_with_dash spec) then Some (synth spec) else None
+command_of words = None
+
+abbrev pub words_of : List (String Global) → List (List ℕ)
+words_of = map string_bytes
+
+abbrev pub usage_text : List ℕ
+usage_text = codes "usage:\n  synth SPEC\n"
+
+-- the most bytes that a specification may have
+abbrev pub spec_limit : ℕ
+spec_limit = 1048576
+
+-- the files that a command asks for, each with the most bytes that it may have
+abbrev pub asked_files : Option Command → List (List ℕ × ℕ)
+asked_files (Some (synth spec)) = (spec, spec_limit) ∷ []
+asked_files None = []
