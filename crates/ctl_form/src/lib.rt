@@ -15,6 +15,8 @@ mod predecessors;
 #[cfg(test)]
 mod samples;
 mod solving;
+#[cfg(test)]
+mod tests;
 mod until_row;
 
 pub use bit_row::BitRow;
