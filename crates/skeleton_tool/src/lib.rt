@@ -13,3 +13,6 @@ mod spec_text;
 mod status;
 
 pub use call::plan;
+
+#[cfg(test)]
+mod tests;
