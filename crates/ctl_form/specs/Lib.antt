@@ -2,6 +2,7 @@ pub mod BitRow
 pub mod Code
 pub mod Form
 pub mod Kind
+pub mod Known
 pub mod Laws
 pub mod Next
 pub mod Normal
@@ -9,6 +10,5 @@ pub mod Path
 pub mod Predecessors
 pub mod Rounds
 pub mod Row
-pub mod Solving
 pub mod Spread
 pub mod Truth

@@ -1,73 +1,111 @@
-ghost use Rattle.std.specs.Prelude.{◌≡◌, ◌↔◌, ℕ, length, true, IsTrue, IfOk};
+ghost use Rattle.std.specs.Prelude.{◌≡◌, ◌↔◌, ℕ, length, true, IsTrue, IfOk, OnOk};
 ghost use Rattle.pair_structure.specs.Structure.{GoesOn};
 ghost use Rattle.ctl_form.specs.Form.{form_of};
+ghost use Rattle.ctl_form.specs.Known.{AreKnown};
 ghost use Rattle.ctl_form.specs.Predecessors.{ArePredecessors};
 ghost use Rattle.ctl_form.specs.Row.{IsAt, IsRowOf, IsTruthOf, local_of};
 ghost use Rattle.ctl_form.specs.Truth.{AlongPaths, HasLocal};
 
+use crate::code::code_of;
 use crate::next_row::next_row;
 use crate::predecessors::Predecessors;
 use crate::until_row::until_row;
 use crate::{BitRow, Formula};
 use pair_structure::{Memory, PairStructure, Side};
 use std::alloc::Global;
+use std::collections::BTreeMap;
 
-/// The truth of a formula at every state. Linear in states and moves, for each operator of the formula.
+/// The rows of the formulas that were labelled, by the formulas' codes.
+pub(crate) type Known = BTreeMap<Vec<u8>, BitRow>;
+
+/// The truth of a formula at every state. Linear in states and moves, for each operator of the formula; a subformula that stands several
+/// times is labelled once.
 pub fn holds_at(alloc: Global, m: &PairStructure, f: &Formula) -> Result<BitRow, Memory>
     ensures { IfOk result (IsTruthOf m.now (form_of f.now)) }
 {
     let predecessors = Predecessors::of(alloc, m)?;
-    truth_row(alloc, m, &predecessors, f)
+    let mut known = BTreeMap::new(alloc);
+    let row = truth_row(alloc, m, &predecessors, &mut known, f)?;
+    Ok(row)
 }
 
-/// The same, for many formulas on one structure.
+/// The same, for many formulas on one structure: what was labelled before is looked up.
+#[cycle(labelling)]
 pub(crate) fn truth_row(
     alloc: Global,
     m: &PairStructure,
     predecessors: &Predecessors,
+    known: &mut Known,
     f: &Formula,
 ) -> Result<BitRow, Memory>
-    requires { ArePredecessors m.now predecessors.now.begins.items predecessors.now.sources.items }
-    ensures { IfOk result (IsTruthOf m.now (form_of f.now)) }
+    requires predecessors { ArePredecessors m.now predecessors.now.begins.items predecessors.now.sources.items }
+    requires known { AreKnown m.now known.old }
+    ensures truth { IfOk result (IsTruthOf m.now (form_of f.now)) }
+    ensures known { OnOk result (AreKnown m.now known.new) }
+{
+    let code = code_of(alloc, f)?;
+    if let Some(row) = known.get(&code) {
+        let row = row.copy(alloc)?;
+        return Ok(row);
+    }
+    let row = labelled(alloc, m, predecessors, known, f)?;
+    let kept = row.copy(alloc)?;
+    known.insert(code, kept)?;
+    Ok(row)
+}
+
+/// The row of a formula from those of its parts.
+#[cycle(labelling)]
+fn labelled(
+    alloc: Global,
+    m: &PairStructure,
+    predecessors: &Predecessors,
+    known: &mut Known,
+    f: &Formula,
+) -> Result<BitRow, Memory>
+    requires predecessors { ArePredecessors m.now predecessors.now.begins.items predecessors.now.sources.items }
+    requires known { AreKnown m.now known.old }
+    ensures truth { IfOk result (IsTruthOf m.now (form_of f.now)) }
+    ensures known { OnOk result (AreKnown m.now known.new) }
 {
     let states = m.states().len();
     match f {
         Formula::Yes => BitRow::all(alloc, states),
         Formula::No => BitRow::none(alloc, states),
         Formula::At { side, local } => local_row(alloc, m, *side, *local),
-        Formula::Not(f) => truth_row(alloc, m, predecessors, f)?.not(alloc),
+        Formula::Not(f) => truth_row(alloc, m, predecessors, known, f)?.not(alloc),
         Formula::And(f, g) => {
-            let p = truth_row(alloc, m, predecessors, f)?;
-            let q = truth_row(alloc, m, predecessors, g)?;
+            let p = truth_row(alloc, m, predecessors, known, f)?;
+            let q = truth_row(alloc, m, predecessors, known, g)?;
             p.and(alloc, &q)
         }
         Formula::Or(f, g) => {
-            let p = truth_row(alloc, m, predecessors, f)?;
-            let q = truth_row(alloc, m, predecessors, g)?;
+            let p = truth_row(alloc, m, predecessors, known, f)?;
+            let q = truth_row(alloc, m, predecessors, known, g)?;
             p.or(alloc, &q)
         }
         Formula::Implies(f, g) => {
-            let p = truth_row(alloc, m, predecessors, f)?;
-            let q = truth_row(alloc, m, predecessors, g)?;
+            let p = truth_row(alloc, m, predecessors, known, f)?;
+            let q = truth_row(alloc, m, predecessors, known, g)?;
             p.implies(alloc, &q)
         }
         Formula::Next { all, side, f } => {
-            let p = truth_row(alloc, m, predecessors, f)?;
+            let p = truth_row(alloc, m, predecessors, known, f)?;
             next_row(alloc, m, *all, *side, &p)
         }
         Formula::Always { all, f } => {
-            let p = truth_row(alloc, m, predecessors, f)?;
+            let p = truth_row(alloc, m, predecessors, known, f)?;
             let never = BitRow::none(alloc, states)?;
             along_row(alloc, m, predecessors, *all, true, &p, &never)
         }
         Formula::Sometime { all, f } => {
-            let p = truth_row(alloc, m, predecessors, f)?;
+            let p = truth_row(alloc, m, predecessors, known, f)?;
             let ever = BitRow::all(alloc, states)?;
             along_row(alloc, m, predecessors, *all, false, &ever, &p)
         }
         Formula::Until { all, weak, f, g } => {
-            let p = truth_row(alloc, m, predecessors, f)?;
-            let q = truth_row(alloc, m, predecessors, g)?;
+            let p = truth_row(alloc, m, predecessors, known, f)?;
+            let q = truth_row(alloc, m, predecessors, known, g)?;
             along_row(alloc, m, predecessors, *all, *weak, &p, &q)
         }
     }

@@ -37,103 +37,74 @@ pub(crate) fn lamp(alloc: Global) -> Result<Role, Fail> {
 
 /// Two philosophers; of two that wait, the one that came first goes.
 pub(crate) fn first(alloc: Global, role: &Role) -> Result<PairStructure, Fail> {
-    let labels = [
-        (0, 0),
-        (1, 0),
-        (0, 1),
-        (2, 0),
-        (1, 1),
-        (1, 1),
-        (0, 2),
-        (2, 1),
-        (1, 2),
-    ];
-    let moves = [
-        a(0, 1),
-        b(0, 2),
-        a(1, 3),
-        b(1, 4),
-        a(2, 5),
-        b(2, 6),
-        a(3, 0),
-        b(3, 7),
-        a(4, 7),
-        b(5, 8),
-        a(6, 8),
-        b(6, 0),
-        a(7, 2),
-        b(8, 1),
-    ];
-    Ok(PairStructure::make(alloc, role, role, &labels, &moves)?)
+    let labels = "NN TN NT CN TT TT NC CT TC";
+    let moves = "0a1 0b2 1a3 1b4 2a5 2b6 3a0 3b7 4a7 5b8 6a8 6b0 7a2 8b1";
+    structure(alloc, role, labels, moves)
 }
 
 /// The same, but the one that came last goes.
 pub(crate) fn last(alloc: Global, role: &Role) -> Result<PairStructure, Fail> {
-    let labels = [
-        (0, 0),
-        (1, 0),
-        (0, 1),
-        (2, 0),
-        (1, 1),
-        (1, 1),
-        (0, 2),
-        (2, 1),
-        (1, 2),
-    ];
-    let moves = [
-        a(0, 1),
-        b(0, 2),
-        a(1, 3),
-        b(1, 4),
-        a(2, 5),
-        b(2, 6),
-        a(3, 0),
-        b(3, 7),
-        b(4, 8),
-        a(5, 7),
-        a(6, 8),
-        b(6, 0),
-        a(7, 2),
-        b(8, 1),
-    ];
-    Ok(PairStructure::make(alloc, role, role, &labels, &moves)?)
+    let labels = "NN TN NT CN TT TT NC CT TC";
+    let moves = "0a1 0b2 1a3 1b4 2a5 2b6 3a0 3b7 4b8 5a7 6a8 6b0 7a2 8b1";
+    structure(alloc, role, labels, moves)
 }
 
 /// The same, but side a goes.
 pub(crate) fn prior(alloc: Global, role: &Role) -> Result<PairStructure, Fail> {
-    let labels = [
-        (0, 0),
-        (1, 0),
-        (0, 1),
-        (2, 0),
-        (1, 1),
-        (0, 2),
-        (2, 1),
-        (1, 2),
-    ];
-    let moves = [
-        a(0, 1),
-        b(0, 2),
-        a(1, 3),
-        b(1, 4),
-        a(2, 4),
-        b(2, 5),
-        a(3, 0),
-        b(3, 6),
-        a(4, 6),
-        a(5, 7),
-        b(5, 0),
-        a(6, 2),
-        b(7, 1),
-    ];
-    Ok(PairStructure::make(alloc, role, role, &labels, &moves)?)
+    let labels = "NN TN NT CN TT NC CT TC";
+    let moves = "0a1 0b2 1a3 1b4 2a4 2b5 3a0 3b6 4a6 5a7 5b0 6a2 7b1";
+    structure(alloc, role, labels, moves)
 }
 
-/// Two lamps that change in turn.
+/// Two lamps that change in turn; L and R are written N and T.
 pub(crate) fn turn(alloc: Global, role: &Role) -> Result<PairStructure, Fail> {
-    let labels = [(0, 0), (0, 1), (1, 1), (1, 0)];
-    let moves = [b(0, 1), a(1, 2), b(2, 3), a(3, 0)];
-    Ok(PairStructure::make(alloc, role, role, &labels, &moves)?)
+    structure(alloc, role, "NN NT TT TN", "0b1 1a2 2b3 3a0")
+}
+
+/// The structure with a word for each label and each move.
+fn structure(alloc: Global, role: &Role, labels: &str, moves: &str) -> Result<PairStructure, Fail> {
+    let mut states = Vec::new(alloc);
+    for word in labels.split(' ') {
+        let signs = word.as_bytes();
+        states.push((local_of(sign(signs, 0)), local_of(sign(signs, 1))))?;
+    }
+    let mut steps = Vec::new(alloc);
+    for word in moves.split(' ') {
+        steps.push(step_of(word))?;
+    }
+    Ok(PairStructure::make(alloc, role, role, &states, &steps)?)
+}
+
+fn step_of(word: &str) -> Move {
+    let signs = word.as_bytes();
+    Move {
+        from: digit_of(sign(signs, 0)),
+        side: side_of(sign(signs, 1)),
+        to: digit_of(sign(signs, 2)),
+    }
+}
+
+fn sign(signs: &[u8], place: usize) -> u8 {
+    signs.get(place).copied().unwrap_or(b' ')
+}
+
+fn local_of(sign: u8) -> u8 {
+    match sign {
+        b'N' => 0,
+        b'T' => 1,
+        _ => 2,
+    }
+}
+
+fn digit_of(sign: u8) -> u64 {
+    sign.saturating_sub(b'0') as u64
+}
+
+fn side_of(sign: u8) -> Side {
+    match sign {
+        b'a' => Side::A,
+        _ => Side::B,
+    }
 }
 
 /// The kind `mutex` of two philosophers, with these clauses.
@@ -176,12 +147,8 @@ fn applied(alloc: Global, sign: u8, parts: &mut Vec<Formula>) -> Result<Formula,
     match sign {
         b'1' => Ok(Formula::Yes),
         b'0' => Ok(Formula::No),
-        b'N' => Ok(at(Side::A, 0)),
-        b'T' => Ok(at(Side::A, 1)),
-        b'C' => Ok(at(Side::A, 2)),
-        b'n' => Ok(at(Side::B, 0)),
-        b't' => Ok(at(Side::B, 1)),
-        b'c' => Ok(at(Side::B, 2)),
+        b'N' | b'T' | b'C' => Ok(at(Side::A, local_of(sign))),
+        b'n' | b't' | b'c' => Ok(at(Side::B, local_of(sign.to_ascii_uppercase()))),
         b'!' => Ok(Formula::Not(Box::new(alloc, popped(parts))?)),
         b'&' | b'|' | b'>' => joined(alloc, sign, parts),
         b'U' | b'u' | b'W' | b'w' => until(alloc, sign, parts),
@@ -249,20 +216,4 @@ fn names(alloc: Global, texts: &[&str]) -> Result<Vec<Name>, Fail> {
 
 fn arc(from: u8, to: u8, free: bool) -> LocalArc {
     LocalArc { from, to, free }
-}
-
-fn a(from: u64, to: u64) -> Move {
-    Move {
-        from,
-        side: Side::A,
-        to,
-    }
-}
-
-fn b(from: u64, to: u64) -> Move {
-    Move {
-        from,
-        side: Side::B,
-        to,
-    }
 }

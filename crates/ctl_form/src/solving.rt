@@ -3,19 +3,18 @@ ghost use Rattle.pair_structure.specs.Structure.{IsOver};
 ghost use Rattle.ctl_form.specs.Form.{form_of};
 ghost use Rattle.ctl_form.specs.Kind.{Satisfies};
 ghost use Rattle.ctl_form.specs.Predecessors.{ArePredecessors};
-ghost use Rattle.ctl_form.specs.Solving.{IsKnown};
+ghost use Rattle.ctl_form.specs.Known.{AreKnown};
 ghost use Rattle.ctl_form.specs.Truth.{Holds};
 
-use crate::code::code_of;
-use crate::holds::truth_row;
+use crate::holds::{Known, truth_row};
 use crate::predecessors::Predecessors;
 use crate::{Formula, PairSpec, whole};
 use pair_structure::{Memory, PairStructure, Role};
 use std::alloc::Global;
-use std::collections::BTreeSet;
+use std::collections::BTreeMap;
 
-/// Whether the structure satisfies the kind. A formula that stands several times is labelled once and looked up after that, so n formulas
-/// of which k differ cost k labellings and n look-ups among k.
+/// Whether the structure satisfies the kind. A clause or a subformula that stands several times is labelled once and looked up after that:
+/// of n operators k that differ cost k labellings and n look-ups among k.
 pub fn solves(
     alloc: Global,
     m: &PairStructure,
@@ -42,7 +41,7 @@ fn each_holds(
     requires begins { 0 < length m.now.states }
     ensures { IfOk result (λ yes. IsTrue yes ↔ All (λ f. Holds m.now f 0) (map form_of forms.now)) }
 {
-    let mut known = BTreeSet::new(alloc);
+    let mut known = BTreeMap::new(alloc);
     for form in forms {
         if !holds_first(alloc, m, predecessors, &mut known, form)? {
             return Ok(false);
@@ -51,27 +50,20 @@ fn each_holds(
     Ok(true)
 }
 
-/// Whether the formula holds at state 0. `known` has the codes of formulas that do.
+/// Whether the formula holds at state 0.
 fn holds_first(
     alloc: Global,
     m: &PairStructure,
     predecessors: &Predecessors,
-    known: &mut BTreeSet<Vec<u8>>,
+    known: &mut Known,
     form: &Formula,
 ) -> Result<bool, Memory>
     requires predecessors { ArePredecessors m.now predecessors.now.begins.items predecessors.now.sources.items }
     requires begins { 0 < length m.now.states }
-    requires known { All (λ code. IsKnown m.now code.items) known.old.keys }
+    requires known { AreKnown m.now known.old }
     ensures holds { IfOk result (λ yes. IsTrue yes ↔ Holds m.now (form_of form.now) 0) }
-    ensures known { OnOk result (All (λ code. IsKnown m.now code.items) known.new.keys) }
+    ensures known { OnOk result (AreKnown m.now known.new) }
 {
-    let code = code_of(alloc, form)?;
-    if known.contains(&code) {
-        return Ok(true);
-    }
-    let holds = truth_row(alloc, m, predecessors, form)?.has(0);
-    if holds {
-        known.insert(code)?;
-    }
-    Ok(holds)
+    let row = truth_row(alloc, m, predecessors, known, form)?;
+    Ok(row.has(0))
 }

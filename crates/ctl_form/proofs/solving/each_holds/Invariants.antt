@@ -1,11 +1,11 @@
 use Rattle.std.proofs.Common.{All, map, take}
 use Rattle.ctl_form.specs.Form.{form_of}
-use Rattle.ctl_form.specs.Solving.{IsKnown}
+use Rattle.ctl_form.specs.Known.{AreKnown}
 use Rattle.ctl_form.specs.Truth.{Holds}
 use Rattle.ctl_form.proofs.solving.each_holds.Given as goal
 
 abbrev pub invariant-loop-form : goal.invariant-loop-form
 invariant-loop-form l = record {
-  known : All (λ code. IsKnown l.m code.items) l.known.keys;
+  known : AreKnown l.m l.known;
   holds : All (λ f. Holds l.m f 0) (map form_of (take l.form-index l.forms));
 }
