@@ -230,8 +230,7 @@ pub degrees_from_lengths : (count : ℕ) (edges : List Edge) (arounds : List Aro
     → IsFirstFailing (λ k. length (around_at arounds k).beside ≤ 32) (length arounds) found → IsFirstFailing (λ k. degree_of edges k ≤ 32) count found
 degrees_from_lengths count edges arounds None around none = λ k lt. omega (arith, degree_from_around count edges arounds k around lt, none k (omega (arith, around.size)))
 degrees_from_lengths count edges arounds (Some k) around (within, over, before) =
-    let lt : k < count = omega (arith, around.size) in
-    (
+    let lt : k < count = omega (arith, around.size) in (
       lt,
       λ few. over (omega (arith, degree_from_around count edges arounds k around lt)),
       λ j below. omega (arith, degree_from_around count edges arounds j around (omega arith), before j below),

@@ -79,8 +79,7 @@ later_too y x xs (inr (k, lt, is)) = (suc k, omega (arith, lt), is)
 -- an insert adds the new element, and no other
 pub Contains-insert : {X : Type 0} (xs : List X) (i : ℕ) (y x : X) → Contains (insert xs i y) x ↔ (x ≡ y) ⊎ Contains xs x
 Contains-insert xs i y x =
-    let moved = IsPermutation-insert xs i y in
-    (
+    let moved = IsPermutation-insert xs i y in (
       λ has. first_or_later y x xs (Contains-permutation (insert xs i y) (y ∷ xs) x (IsPermutation-sym (y ∷ xs) (insert xs i y) moved) has),
       λ is. Contains-permutation (y ∷ xs) (insert xs i y) x moved (later_too y x xs is),
     )

@@ -24,7 +24,7 @@ pub enum NetworkFault {
     #[error("edge {edge} joins the processes of an earlier one")]
     EdgeTwice { edge: u32 },
     /// The roles of the edge's processes are not those of its kind.
-    #[error("the processes of edge {edge} have other roles than its kind")]
+    #[error("edge {edge} has processes of other roles than its kind")]
     RoleMismatch { edge: u32 },
     /// The process has more than 32 neighbours.
     #[error("process {process} has more than 32 neighbours")]

@@ -7,6 +7,8 @@ mod fault;
 mod laws;
 mod neighbourhood;
 mod network;
+#[cfg(test)]
+mod network_tests;
 mod part_check;
 mod parts;
 

@@ -1,6 +1,6 @@
 ghost use Rattle.std.specs.Prelude.{◌≡◌, ◌≢◌, ◌<◌, ◌^◌, length, IfOk, IfErr};
 ghost use Rattle.interconnection.specs.Around.{AreAround};
-ghost use Rattle.interconnection.specs.Graph.{AreNeighbours, IsLockPlan};
+ghost use Rattle.interconnection.specs.Graph.{AreNeighbours, IsLockPlan, degree_of};
 ghost use Rattle.interconnection.specs.Network.{AreLawful, IsNetwork};
 ghost use Rattle.interconnection.specs.NetworkFault.{IsFirstNetworkFault};
 
@@ -97,7 +97,8 @@ impl Network {
     /// The neighbours of a process, by rising number. Takes no time that grows with the network.
     pub fn neighbours(&self, k: u32) -> &[Beside]
         requires { k < length self.now.processes }
-        ensures { AreNeighbours self.now.edges k result.now }
+        ensures neighbours { AreNeighbours self.now.edges k result.now }
+        ensures degree { length result.now ≡ degree_of self.now.edges k }
     {
         self.adjacency.beside(k as usize)
     }

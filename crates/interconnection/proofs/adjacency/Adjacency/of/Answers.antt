@@ -20,7 +20,7 @@ join-requires-clause-b_fresh c =
     let edges = c.args.edges.now in
     let lt = c.loop-e-test.true in
     not_planned n c.args.count edges c.loop-e.adjacency c.loop-e.invariant.around (c.requires.in_range n lt).1 (c.requires.joins_two n lt)
-        (λ earlier. let no : IsTrue false = c.if-are_joined.ensures.1 (planned_from_HasEarlier n c.args.count edges c.loop-e.adjacency c.loop-e.invariant.around (c.requires.in_range n lt).0 earlier) in cc)
+    (λ earlier. let no : IsTrue false = c.if-are_joined.ensures.1 (planned_from_HasEarlier n c.args.count edges c.loop-e.adjacency c.loop-e.invariant.around (c.requires.in_range n lt).0 earlier) in cc)
 
 pub loop-e-preserved : goal.loop-e-preserved
 loop-e-preserved c =
