@@ -1,5 +1,5 @@
 -- What stands around each process, as the edges are read one after another.
-use Rattle.std.proofs.Common.{ℕ, zero, suc, ◌==◌, ◌≡◌, ◌≢◌, ◌<◌, ◌≤◌, ◌+◌, ◌⊎◌, ◌↔◌, ◌||◌, ◌∷◌, [], Bool, true, false, Option, Some, None, ◌++◌, List, length, take, Contains, below_more, count_by, arith, inl, inr, refl, sym, ◌∙◌, ap, subst, eq-eqb, ne_eqb}
+use Rattle.std.proofs.Common.{ℕ, zero, suc, ◌==◌, ◌≡◌, ◌≢◌, ◌<◌, ◌≤◌, ◌+◌, ◌⊎◌, ◌||◌, ◌∷◌, [], Bool, true, false, Option, Some, None, ◌++◌, List, length, take, Contains, below_more, count_by, arith, inl, inr, refl, sym, ◌∙◌, ap, subst, eq-eqb, ne_eqb}
 use Rattle.std.proofs.lemmas.Bool.{cases_lt, cases_eq}
 use Rattle.std.proofs.lemmas.List.{get_or_append_left, get_or_push, length_push}
 use Rattle.std.proofs.lemmas.List.Sums.{count_by_more_yes, count_by_more_no}
@@ -9,8 +9,8 @@ use Rattle.pair_structure.specs.declared.side.Side.{Side}
 use Rattle.pair_structure.specs.declared.side.Side.TheVariants.{A, B}
 use Rattle.interconnection.specs.declared.parts.Beside.{Beside}
 use Rattle.interconnection.specs.declared.parts.Edge.{Edge}
-use Rattle.interconnection.specs.Around.{Around, IsOrdered, IsGrown, IsBesideBelow, IsNeighbourBelow, IsAround, alone, around_at, AreAlone, AreAroundBelow, AreAround}
-use Rattle.interconnection.specs.Graph.{edge_at, end_of, opposite, joins, degree_of, IsBeside, AreNeighbours, IsNeighbour, IsLockPlan}
+use Rattle.interconnection.specs.Around.{Around, IsGrown, IsBesideBelow, IsNeighbourBelow, IsAround, alone, around_at, AreAlone, AreAroundBelow, AreAround}
+use Rattle.interconnection.specs.Graph.{edge_at, end_of, opposite, joins, degree_of, AreNeighbours, IsLockPlan}
 use Rattle.interconnection.specs.NetworkFault.{HasEarlier}
 
 abbrev no_edge : Edge

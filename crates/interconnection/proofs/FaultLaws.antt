@@ -1,5 +1,5 @@
 -- Which fault of the parts of a network comes first, and that parts are lawful exactly where no fault stands.
-use Rattle.std.proofs.Common.{ℕ, ◌≡◌, ◌≢◌, ◌<◌, ◌≤◌, ◌⊎◌, List, [], length, get_or, Some, None, All, AllPairs, arith, inl, inr, subst, ap, sym, refl}
+use Rattle.std.proofs.Common.{ℕ, ◌≡◌, ◌≢◌, ◌<◌, ◌≤◌, List, [], length, get_or, Some, arith, inl, inr, subst, refl}
 use Rattle.std.proofs.lemmas.Bool.{cases_lt, cases_eq}
 use Rattle.std.proofs.lemmas.List.{get_or_default}
 use Rattle.pair_structure.specs.FirstFailing.{IsFirstFailing}
@@ -12,15 +12,7 @@ use Rattle.interconnection.specs.declared.parts.Process.{Process}
 use Rattle.interconnection.specs.Graph.{JoinSame, degree_of, edge_at}
 use Rattle.interconnection.specs.Network.{AreRoles, AreLawful, HasRole, HasRoles, IsInRange, JoinsTwo, ends_of, role_of}
 use Rattle.interconnection.specs.NetworkCheck.{AreFew, AreParts, AreEdges, AreFitting, AreSingle, IsFailedAdjacency, IsFirstPassed, IsFirstTwice}
-use Rattle.interconnection.specs.NetworkFault.{HasEarlier, IsFirstNetworkFault, IsPassed, Stands, kind_of, place_of}
-
--- the first limit that is passed
-
-pub first_passed_16 : (roles kinds processes : ℕ) → (16 < roles) ⊎ (16 < kinds) → IsFirstPassed roles kinds processes 16
-first_passed_16 roles kinds processes over = record { passed = inl (refl, over); first = λ lower lt passed. elim passed [ inl (is, _) ↦ omega (arith, lt, is) | inr (is, _) ↦ omega (arith, lt, is) ] }
-
-pub first_passed_1024 : (roles kinds processes : ℕ) → roles ≤ 16 → kinds ≤ 16 → 1024 < processes → IsFirstPassed roles kinds processes 1024
-first_passed_1024 roles kinds processes few few' over = record { passed = inr (refl, over); first = λ lower lt passed. elim passed [ inl (is, more) ↦ elim more [ inl some ↦ omega (arith, few, some) | inr some ↦ omega (arith, few', some) ] | inr (is, _) ↦ omega (arith, lt, is) ] }
+use Rattle.interconnection.specs.NetworkFault.{IsFirstNetworkFault, IsPassed, Stands, kind_of, place_of}
 
 none_passed : (roles kinds processes limit : ℕ) → AreFew roles kinds processes → IsPassed roles kinds processes limit → ⊥
 none_passed roles kinds processes limit few passed = elim passed [

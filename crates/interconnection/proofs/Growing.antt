@@ -1,11 +1,11 @@
 -- One more neighbour, put into both lists of a process at its place.
-use Rattle.std.proofs.Common.{ℕ, ◌≡◌, ◌<◌, ◌≤◌, List, length, get_or, insert, Contains, arith, inl, inr, ap, subst, sym, refl}
+use Rattle.std.proofs.Common.{ℕ, ◌≡◌, ◌<◌, ◌≤◌, List, length, get_or, insert, Contains, arith, inl, inr, ap, subst}
 use Rattle.std.specs.List.Sorted.{IsPartitionPoint}
 use Rattle.std.proofs.lemmas.Bool.{cases_lt}
 use Rattle.std.proofs.lemmas.List.Edits.{length-insert}
 use Rattle.std.proofs.lemmas.List.Elements.{Contains-get_or}
 use Rattle.interconnection.specs.declared.parts.Beside.{Beside}
-use Rattle.interconnection.specs.Around.{Around, IsOrdered, IsGrown}
+use Rattle.interconnection.specs.Around.{IsOrdered, IsGrown}
 use Rattle.interconnection.proofs.RisingLists.{RisesBy-insert, Contains-insert}
 
 strictly : (x y : ℕ) → x ≤ y → (y ≡ x → ⊥) → x < y

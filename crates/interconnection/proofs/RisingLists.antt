@@ -1,8 +1,7 @@
 -- Lists that rise by a number of their elements.
-use Rattle.std.proofs.Common.{ℕ, zero, suc, ◌≡◌, ◌≢◌, ◌<◌, ◌≤◌, ◌+◌, ◌-◌, ◌⊎◌, ◌↔◌, ◌∷◌, [], List, length, get_or, insert, AllPairs, All, Contains, count_by, cond, ◌==◌, true, false, arith, inl, inr, refl, sym, ◌∙◌, ap, subst, eq-eqb, ne_eqb}
+use Rattle.std.proofs.Common.{ℕ, zero, suc, ◌≡◌, ◌<◌, ◌≤◌, ◌+◌, ◌-◌, ◌⊎◌, ◌↔◌, ◌∷◌, [], List, length, get_or, insert, AllPairs, All, Contains, count_by, cond, ◌==◌, true, false, arith, inl, inr, refl, sym, ◌∙◌, ap, subst, eq-eqb, ne_eqb}
 use Rattle.std.specs.List.Sorted.{IsNonDecreasingBy, IsPartitionPoint}
 use Rattle.std.proofs.lemmas.Bool.{cases_lt, cases_order}
-use Rattle.std.proofs.lemmas.List.{get_or_default}
 use Rattle.std.proofs.lemmas.List.Edits.{length-insert, get_or-insert_below, get_or-insert_at, get_or-insert_above}
 use Rattle.std.proofs.lemmas.List.Sorted.{IsPermutation-insert, IsPermutation-sym, Contains-permutation}
 use Rattle.std.proofs.lemmas.List.Sums.{sum_by-cons}

@@ -1,5 +1,5 @@
 -- What is checked of the parts of a network, one after another, in the order of the faults.
-use Rattle.std.specs.Prelude.{ℕ, ◌≡◌, ◌<◌, ◌≤◌, List, length}
+use Rattle.std.specs.Prelude.{ℕ, ◌<◌, ◌≤◌, List, length}
 use Rattle.pair_structure.specs.Role.{RoleParts}
 use Rattle.interconnection.specs.declared.fault.NetworkFault.{NetworkFault}
 use Rattle.interconnection.specs.declared.fault.NetworkFault.TheVariants.{EdgeTwice, Memory}

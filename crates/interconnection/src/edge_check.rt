@@ -1,4 +1,4 @@
-ghost use Rattle.std.specs.Prelude.{◌≡◌, ◌↔◌, ◌<◌, ◌^◌, ℕ, length, List, MatchOption, IsTrue};
+ghost use Rattle.std.specs.Prelude.{◌↔◌, ◌<◌, ◌^◌, length, List, MatchOption, IsTrue};
 ghost use Rattle.pair_structure.specs.FirstFailing.{IsFirstFailing};
 ghost use Rattle.pair_structure.specs.Role.{RoleParts};
 ghost use Rattle.interconnection.specs.Graph.{edge_at};

@@ -1,4 +1,4 @@
-ghost use Rattle.std.specs.Prelude.{◌≡◌, ◌<◌, ◌≤◌, ℕ, length, List, MatchOption};
+ghost use Rattle.std.specs.Prelude.{◌<◌, length, List, MatchOption};
 ghost use Rattle.pair_structure.specs.FirstFailing.{IsFirstFailing};
 ghost use Rattle.interconnection.specs.declared.parts.Edge.{Edge};
 ghost use Rattle.interconnection.specs.Network.{ends_of, role_of};

@@ -1,5 +1,4 @@
-use Rattle.std.proofs.Common.{◌≡◌, ◌≢◌, ◌<◌, IsTrue, arith, below_more, false, refl}
-use Rattle.interconnection.specs.NetworkFault.{HasEarlier}
+use Rattle.std.proofs.Common.{IsTrue, arith, below_more, false, refl}
 use Rattle.interconnection.proofs.Besides.{AreAroundBelow-more, HasEarlier-from_plan, not_planned, planned_from_HasEarlier}
 use Rattle.interconnection.proofs.adjacency.Adjacency.of.Goals as goal
 
