@@ -1,0 +1,237 @@
+-- What stands around each process, as the edges are read one after another.
+use Rattle.std.proofs.Common.{ℕ, zero, suc, ◌==◌, ◌≡◌, ◌≢◌, ◌<◌, ◌≤◌, ◌+◌, ◌⊎◌, ◌||◌, ◌∷◌, [], Bool, true, false, Option, Some, None, ◌++◌, List, length, take, Contains, below_more, count_by, arith, inl, inr, refl, sym, ◌∙◌, ap, subst, eq-eqb, ne_eqb}
+use Rattle.std.proofs.lemmas.Bool.{cases_lt, cases_eq}
+use Rattle.std.proofs.lemmas.List.{get_or_append_left, get_or_push, length_push}
+use Rattle.std.proofs.lemmas.List.Sums.{count_by_more_yes, count_by_more_no}
+use Rattle.std.proofs.Math.Seq.{take-length}
+use Rattle.pair_structure.specs.FirstFailing.{IsFirstFailing}
+use Rattle.pair_structure.specs.declared.side.Side.{Side}
+use Rattle.pair_structure.specs.declared.side.Side.TheVariants.{A, B}
+use Rattle.interconnection.specs.declared.parts.Beside.{Beside}
+use Rattle.interconnection.specs.declared.parts.Edge.{Edge}
+use Rattle.interconnection.specs.Around.{Around, IsGrown, IsBesideBelow, IsNeighbourBelow, IsAround, alone, around_at, AreAlone, AreAroundBelow, AreAround}
+use Rattle.interconnection.specs.Graph.{edge_at, end_of, opposite, joins, degree_of, AreNeighbours, IsLockPlan}
+use Rattle.interconnection.specs.NetworkFault.{HasEarlier}
+
+abbrev no_edge : Edge
+no_edge = record { a = 0; b = 0; kind = 0 }
+
+abbrev beside_by : Edge → ℕ → Side → Beside
+beside_by edge e side = record { process = end_of edge (opposite side); edge = e; side = side }
+
+-- of a process on one side alone, the side is known
+same_side : (edge : Edge) (k : ℕ) (side other : Side) → end_of edge (opposite side) ≢ k → end_of edge other ≡ k → other ≡ side
+same_side edge k A A differ is = refl
+same_side edge k A B differ is = absurd (differ is)
+same_side edge k B A differ is = absurd (differ is)
+same_side edge k B B differ is = refl
+
+either : (b : Bool) → (b || true) ≡ true
+either true = refl
+either false = refl
+
+joins_by : (edge : Edge) (k : ℕ) (side : Side) → end_of edge side ≡ k → joins k edge ≡ true
+joins_by edge k A is = rw (eq-eqb edge.a k is) refl
+joins_by edge k B is = rw (eq-eqb edge.b k is) (either (edge.a == k))
+
+joins_not : (edge : Edge) (k : ℕ) → edge.a ≢ k → edge.b ≢ k → joins k edge ≡ false
+joins_not edge k a b = rw (ne_eqb edge.a k a, ne_eqb edge.b k b) refl
+
+IsBesideBelow-more : (n : ℕ) (edges : List Edge) (k : ℕ) (b : Beside) → IsBesideBelow n edges k b → IsBesideBelow (n + 1) edges k b
+IsBesideBelow-more n edges k b is = record { within = omega (arith, is.within); own = is.own; other = is.other }
+
+-- one more edge is on no side of k, or on one alone
+below_or_last : (n : ℕ) (edges : List Edge) (k : ℕ) (b : Beside) → IsBesideBelow (n + 1) edges k b → IsBesideBelow n edges k b ⊎ (b.edge ≡ n)
+below_or_last n edges k b is =
+    elim (cases_lt b.edge n) [
+      | inl lt ↦ inl (record { within = lt; own = is.own; other = is.other })
+      | inr ge ↦ inr (omega (arith, is.within))
+    ]
+
+-- the last edge gives its process one neighbour
+last_is : (n : ℕ) (edges : List Edge) (k : ℕ) (side : Side) (b : Beside) → end_of (edge_at edges n) (opposite side) ≢ k → IsBesideBelow (n + 1) edges k b → b.edge ≡ n → b ≡ beside_by (edge_at edges n) n side
+last_is n edges k side b differ is last =
+    let own : end_of (edge_at edges n) b.side ≡ k = subst (λ e. end_of (edge_at edges e) b.side ≡ k) last is.own in
+    let side_is : b.side ≡ side = same_side (edge_at edges n) k side b.side differ own in
+    let other : end_of (edge_at edges n) (opposite b.side) ≡ b.process = subst (λ e. end_of (edge_at edges e) (opposite b.side) ≡ b.process) last is.other in
+    let process_is : b.process ≡ end_of (edge_at edges n) (opposite side) = sym other ∙ ap (λ s. end_of (edge_at edges n) (opposite s)) side_is in
+    λ i. record { process = process_is i; edge = last i; side = side_is i }
+
+-- one more edge, which joins k from this side
+IsAround-joined : (n : ℕ) (edges : List Edge) (k : ℕ) (side : Side) (old new : Around) → n < length edges → end_of (edge_at edges n) side ≡ k → end_of (edge_at edges n) (opposite side) ≢ k
+    → IsAround n edges k old → IsGrown old (beside_by (edge_at edges n) n side) new → IsAround (n + 1) edges k new
+IsAround-joined n edges k side old new lt own differ around grown = record { ordered = grown.ordered; beside = λ b. (to b, from b); plan = λ j. (to_plan j, from_plan j); count = count }
+  where
+    to : (b : Beside) → Contains new.beside b → IsBesideBelow (n + 1) edges k b
+    to b has = elim ((grown.beside b).0 has) [
+      | inl same ↦ subst (IsBesideBelow (n + 1) edges k) (sym same) (record { within = omega arith; own = own; other = refl })
+      | inr before ↦ IsBesideBelow-more n edges k b ((around.beside b).0 before)
+    ]
+
+    from : (b : Beside) → IsBesideBelow (n + 1) edges k b → Contains new.beside b
+    from b is = (grown.beside b).1 (elim (below_or_last n edges k b is) [
+      | inl below ↦ inr ((around.beside b).1 below)
+      | inr last ↦ inl (last_is n edges k side b differ is last)
+    ])
+
+    to_plan : (j : ℕ) → Contains new.plan j → (j ≡ k) ⊎ IsNeighbourBelow (n + 1) edges k j
+    to_plan j has = elim ((grown.plan j).0 has) [
+      | inl same ↦ inr (n, side, record { within = omega arith; own = own; other = sym same })
+      | inr before ↦ elim ((around.plan j).0 before) [
+        | inl itself ↦ inl itself
+        | inr (e, s, below) ↦ inr (e, s, IsBesideBelow-more n edges k (record { process = j; edge = e; side = s }) below)
+      ]
+    ]
+
+    from_plan : (j : ℕ) → (j ≡ k) ⊎ IsNeighbourBelow (n + 1) edges k j → Contains new.plan j
+    from_plan j (inl itself) = (grown.plan j).1 (inr ((around.plan j).1 (inl itself)))
+    from_plan j (inr (e, s, is)) = grown.ordered.planned (record { process = j; edge = e; side = s }) (from (record { process = j; edge = e; side = s }) is)
+
+    count : length new.beside ≡ count_by (joins k) (take (n + 1) edges)
+    count = omega (arith, grown.count, around.count, count_by_more_yes (joins k) edges n no_edge lt (joins_by (edge_at edges n) k side own))
+
+-- one more edge, which does not join k
+IsAround-apart : (n : ℕ) (edges : List Edge) (k : ℕ) (around : Around) → n < length edges → (edge_at edges n).a ≢ k → (edge_at edges n).b ≢ k → IsAround n edges k around → IsAround (n + 1) edges k around
+IsAround-apart n edges k around lt a b is = record { ordered = is.ordered; beside = λ x. (λ has. IsBesideBelow-more n edges k x ((is.beside x).0 has), λ more. (is.beside x).1 (before x more)); plan = λ j. (to_plan j, from_plan j); count = is.count ∙ sym (count_by_more_no (joins k) edges n no_edge lt (joins_not (edge_at edges n) k a b)) }
+  where
+    not_on : (side : Side) → end_of (edge_at edges n) side ≡ k → ⊥
+    not_on A own = a own
+    not_on B own = b own
+
+    before : (x : Beside) → IsBesideBelow (n + 1) edges k x → IsBesideBelow n edges k x
+    before x more = elim (below_or_last n edges k x more) [
+      | inl below ↦ below
+      | inr last ↦ absurd (not_on x.side (subst (λ e. end_of (edge_at edges e) x.side ≡ k) last more.own))
+    ]
+
+    to_plan : (j : ℕ) → Contains around.plan j → (j ≡ k) ⊎ IsNeighbourBelow (n + 1) edges k j
+    to_plan j has = elim ((is.plan j).0 has) [
+      | inl itself ↦ inl itself
+      | inr (e, s, below) ↦ inr (e, s, IsBesideBelow-more n edges k (record { process = j; edge = e; side = s }) below)
+    ]
+
+    from_plan : (j : ℕ) → (j ≡ k) ⊎ IsNeighbourBelow (n + 1) edges k j → Contains around.plan j
+    from_plan j (inl itself) = (is.plan j).1 (inl itself)
+    from_plan j (inr (e, s, more)) = (is.plan j).1 (inr (e, s, before (record { process = j; edge = e; side = s }) more))
+
+-- one more edge, which gives each of its processes the other
+pub AreAroundBelow-more : (n count : ℕ) (edges : List Edge) (old new : List Around) → n < length edges → (edge_at edges n).a ≢ (edge_at edges n).b → AreAroundBelow n count edges old
+    → length new ≡ length old
+    → IsGrown (around_at old (edge_at edges n).a) (record { process = (edge_at edges n).b; edge = n; side = A }) (around_at new (edge_at edges n).a)
+    → IsGrown (around_at old (edge_at edges n).b) (record { process = (edge_at edges n).a; edge = n; side = B }) (around_at new (edge_at edges n).b)
+    → ((k : ℕ) → ((edge_at edges n).a ≡ k → ⊥) → ((edge_at edges n).b ≡ k → ⊥) → around_at new k ≡ around_at old k)
+    → AreAroundBelow (n + 1) count edges new
+AreAroundBelow-more n count edges old new lt differ around size a b others = record { size = size ∙ around.size; each = each }
+  where
+    each : (k : ℕ) → k < count → IsAround (n + 1) edges k (around_at new k)
+    each k within = elim (cases_eq (edge_at edges n).a k) [
+      | inl on_a ↦ IsAround-joined n edges k A (around_at old k) (around_at new k) lt on_a (λ same. differ (on_a ∙ sym same)) (around.each k within)
+          (subst (λ k. IsGrown (around_at old k) (record { process = (edge_at edges n).b; edge = n; side = A }) (around_at new k)) on_a a)
+      | inr off_a ↦ elim (cases_eq (edge_at edges n).b k) [
+        | inl on_b ↦ IsAround-joined n edges k B (around_at old k) (around_at new k) lt on_b off_a (around.each k within)
+            (subst (λ k. IsGrown (around_at old k) (record { process = (edge_at edges n).a; edge = n; side = B }) (around_at new k)) on_b b)
+        | inr off_b ↦ subst (IsAround (n + 1) edges k) (sym (others k off_a off_b)) (IsAround-apart n edges k (around_at old k) lt off_a off_b (around.each k within))
+      ]
+    ]
+
+-- before the first edge each process is alone
+
+only_one : (edges : List Edge) (k j : ℕ) → Contains (k ∷ []) j → (j ≡ k) ⊎ IsNeighbourBelow 0 edges k j
+only_one edges k j (zero, lt, is) = inl (sym is)
+only_one edges k j (suc i, lt, is) = absurd (omega (arith, lt))
+
+IsAround-alone : (edges : List Edge) (k : ℕ) → IsAround 0 edges k (alone k)
+IsAround-alone edges k = record {
+  ordered = record {
+    besides_rise = λ i j d before lt. absurd (omega (arith, lt));
+    plan_rises = λ i j d before lt. absurd (omega (arith, lt, before));
+    planned = λ b has. absurd (omega (arith, has.1));
+  };
+  beside = λ b. (λ has. absurd (omega (arith, has.1)), λ is. absurd (omega (arith, is.within)));
+  plan = λ j. (only_one edges k j, λ is. elim is [ inl same ↦ (0, omega arith, sym same) | inr (e, s, below) ↦ absurd (omega (arith, below.within)) ]);
+  count = refl;
+}
+
+pub AreAroundBelow-none : (count : ℕ) (edges : List Edge) (arounds : List Around) → AreAlone count arounds → AreAroundBelow 0 count edges arounds
+AreAroundBelow-none count edges arounds are = record { size = are.size; each = λ k within. subst (IsAround 0 edges k) (sym (are.each k within)) (IsAround-alone edges k) }
+
+-- one more process, alone
+pub AreAlone-more : (n : ℕ) (arounds : List Around) (new : Around) → AreAlone n arounds → new ≡ alone n → AreAlone (n + 1) (arounds ++ new ∷ [])
+AreAlone-more n arounds new are is = record {
+  size = omega (arith, length_push arounds new, are.size);
+  each = below_more _ n
+      (λ k lt. get_or_append_left arounds (new ∷ []) _ k (omega (arith, are.size)) ∙ are.each k lt)
+      (get_or_push arounds new _ n are.size ∙ is);
+}
+
+earlier_from : (n : ℕ) (edges : List Edge) → IsNeighbourBelow n edges (edge_at edges n).a (edge_at edges n).b → HasEarlier edges n
+earlier_from n edges (e, A, is) = (e, is.within, inl (is.own, is.other))
+earlier_from n edges (e, B, is) = (e, is.within, inr (is.other, is.own))
+
+-- the edge's second process is planned by its first exactly where an earlier edge joins the two
+pub HasEarlier-from_plan : (n count : ℕ) (edges : List Edge) (arounds : List Around) → AreAroundBelow n count edges arounds → (edge_at edges n).a < count → (edge_at edges n).a ≢ (edge_at edges n).b
+    → Contains (around_at arounds (edge_at edges n).a).plan (edge_at edges n).b → HasEarlier edges n
+HasEarlier-from_plan n count edges arounds around within differ planned =
+    elim (((around.each (edge_at edges n).a within).plan (edge_at edges n).b).0 planned) [
+      | inl same ↦ absurd (differ (sym same))
+      | inr neighbour ↦ earlier_from n edges neighbour
+    ]
+
+pub planned_from_HasEarlier : (n count : ℕ) (edges : List Edge) (arounds : List Around) → AreAroundBelow n count edges arounds → (edge_at edges n).a < count → HasEarlier edges n
+    → Contains (around_at arounds (edge_at edges n).a).plan (edge_at edges n).b
+planned_from_HasEarlier n count edges arounds around within (e, lt, same) =
+    ((around.each (edge_at edges n).a within).plan (edge_at edges n).b).1 (inr (elim same [
+      | inl (a, b) ↦ (e, A, record { within = lt; own = a; other = b })
+      | inr (a, b) ↦ (e, B, record { within = lt; own = b; other = a })
+    ]))
+
+earlier_from_other : (n : ℕ) (edges : List Edge) → IsNeighbourBelow n edges (edge_at edges n).b (edge_at edges n).a → HasEarlier edges n
+earlier_from_other n edges (e, A, is) = (e, is.within, inr (is.own, is.other))
+earlier_from_other n edges (e, B, is) = (e, is.within, inl (is.other, is.own))
+
+-- where no earlier edge joins the two, the first is not planned by the second
+pub not_planned : (n count : ℕ) (edges : List Edge) (arounds : List Around) → AreAroundBelow n count edges arounds → (edge_at edges n).b < count → (edge_at edges n).a ≢ (edge_at edges n).b → (HasEarlier edges n → ⊥)
+    → Contains (around_at arounds (edge_at edges n).b).plan (edge_at edges n).a → ⊥
+not_planned n count edges arounds around within differ none planned =
+    elim (((around.each (edge_at edges n).b within).plan (edge_at edges n).a).0 planned) [
+      | inl same ↦ differ same
+      | inr neighbour ↦ none (earlier_from_other n edges neighbour)
+    ]
+
+-- what stands around a process by all the edges are its neighbours, its plan, and as many as its degree
+
+pub AreNeighbours-from_around : (count : ℕ) (edges : List Edge) (arounds : List Around) (k : ℕ) → AreAround count edges arounds → k < count → AreNeighbours edges k (around_at arounds k).beside
+AreNeighbours-from_around count edges arounds k around within =
+    let is = around.each k within in
+    record {
+      rising = is.ordered.besides_rise;
+      exactly = λ b. (
+        λ has. (let by = (is.beside b).0 has in record { within = by.within; own = by.own; other = by.other }),
+        λ by. (is.beside b).1 (record { within = by.within; own = by.own; other = by.other }),
+      );
+    }
+
+pub IsLockPlan-from_around : (count : ℕ) (edges : List Edge) (arounds : List Around) (k : ℕ) → AreAround count edges arounds → k < count → IsLockPlan edges k (around_at arounds k).plan
+IsLockPlan-from_around count edges arounds k around within =
+    let is = around.each k within in
+    record {
+      rising = is.ordered.plan_rises;
+      exactly = λ j. (
+        λ has. elim ((is.plan j).0 has) [ inl itself ↦ inl itself | inr (e, s, by) ↦ inr (e, s, record { within = by.within; own = by.own; other = by.other }) ],
+        λ has. (is.plan j).1 (elim has [ inl itself ↦ inl itself | inr (e, s, by) ↦ inr (e, s, record { within = by.within; own = by.own; other = by.other }) ]),
+      );
+    }
+
+pub degree_from_around : (count : ℕ) (edges : List Edge) (arounds : List Around) (k : ℕ) → AreAround count edges arounds → k < count → length (around_at arounds k).beside ≡ degree_of edges k
+degree_from_around count edges arounds k around within = (around.each k within).count ∙ ap (count_by (joins k)) (take-length edges)
+
+-- the first process with too many beside it is the first whose degree is too high
+pub degrees_from_lengths : (count : ℕ) (edges : List Edge) (arounds : List Around) (found : Option ℕ) → AreAround count edges arounds
+    → IsFirstFailing (λ k. length (around_at arounds k).beside ≤ 32) (length arounds) found → IsFirstFailing (λ k. degree_of edges k ≤ 32) count found
+degrees_from_lengths count edges arounds None around none = λ k lt. omega (arith, degree_from_around count edges arounds k around lt, none k (omega (arith, around.size)))
+degrees_from_lengths count edges arounds (Some k) around (within, over, before) =
+    let lt : k < count = omega (arith, around.size) in (
+      lt,
+      λ few. over (omega (arith, degree_from_around count edges arounds k around lt)),
+      λ j below. omega (arith, degree_from_around count edges arounds j around (omega arith), before j below),
+    )

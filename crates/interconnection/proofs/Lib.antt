@@ -1,0 +1,4 @@
+pub mod Besides
+pub mod FaultLaws
+pub mod Growing
+pub mod RisingLists

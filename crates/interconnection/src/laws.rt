@@ -1,0 +1,11 @@
+ghost use Rattle.interconnection.specs.Laws.{NeighboursAreMutual, StandsOnceInOwnPlan};
+
+/// A process is a neighbour of another exactly where the other is one of it, by the same edge and on the other side.
+pub fn neighbours_are_mutual()
+    ensures { NeighboursAreMutual }
+{}
+
+/// A process stands in its own lock plan, and once.
+pub fn stands_once_in_own_plan()
+    ensures { StandsOnceInOwnPlan }
+{}

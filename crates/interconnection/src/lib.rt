@@ -1,0 +1,18 @@
+//! The graph of processes: which processes share a value, in the way of which kind, and who stands beside whom.
+#![tactic(auto)]
+
+mod adjacency;
+mod edge_check;
+mod fault;
+mod laws;
+mod neighbourhood;
+mod network;
+#[cfg(test)]
+mod network_tests;
+mod part_check;
+mod parts;
+
+pub use fault::NetworkFault;
+pub use laws::{neighbours_are_mutual, stands_once_in_own_plan};
+pub use network::Network;
+pub use parts::{Beside, Edge, Process};

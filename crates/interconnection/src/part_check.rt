@@ -1,0 +1,73 @@
+ghost use Rattle.std.specs.Prelude.{◌<◌, length, List, MatchOption};
+ghost use Rattle.pair_structure.specs.FirstFailing.{IsFirstFailing};
+ghost use Rattle.interconnection.specs.declared.parts.Edge.{Edge};
+ghost use Rattle.interconnection.specs.Network.{ends_of, role_of};
+ghost use Rattle.interconnection.specs.NetworkCheck.{AreFew, AreParts, IsFirstPassed};
+ghost use Rattle.interconnection.specs.NetworkFault.{IsFirstNetworkFault};
+
+use crate::{NetworkFault, Process};
+use pair_structure::Role;
+
+const MAX_ROLES: usize = 16;
+
+const MAX_KINDS: usize = 16;
+
+const MAX_PROCESSES: usize = 1024;
+
+/// The first fault of roles, kinds and processes. Linear in their numbers; takes no memory.
+pub(crate) fn part_fault(
+    roles: &[Role],
+    ends: &[(u8, u8)],
+    processes: &[Process],
+) -> Option<NetworkFault>
+    ensures { MatchOption result (AreParts roles.now ends.now processes.now)
+        (λ fault. (edges : List Edge) → IsFirstNetworkFault roles.now ends.now processes.now edges fault) }
+{
+    if let Some(limit) = passed_limit(roles.len(), ends.len(), processes.len()) {
+        return Some(NetworkFault::TooMany { limit });
+    }
+    if let Some(kind) = first_end_outside(roles.len(), ends) {
+        return Some(NetworkFault::EndRange { kind: kind as u8 });
+    }
+    if let Some(k) = first_role_outside(roles.len(), processes) {
+        return Some(NetworkFault::ProcessRole { process: k as u32 });
+    }
+    None
+}
+
+fn passed_limit(roles: usize, kinds: usize, processes: usize) -> Option<u32>
+    ensures { MatchOption result (AreFew roles kinds processes) (IsFirstPassed roles kinds processes) }
+{
+    if roles > MAX_ROLES {
+        return Some(MAX_ROLES as u32);
+    }
+    if kinds > MAX_KINDS {
+        return Some(MAX_KINDS as u32);
+    }
+    if processes > MAX_PROCESSES {
+        return Some(MAX_PROCESSES as u32);
+    }
+    None
+}
+
+fn first_end_outside(roles: usize, ends: &[(u8, u8)]) -> Option<usize>
+    ensures { IsFirstFailing (λ kind. ((ends_of ends.now kind).0 < roles) × ((ends_of ends.now kind).1 < roles)) (length ends.now) result }
+{
+    for (kind, pair) in ends.iter().enumerate() {
+        if pair.0 as usize >= roles || pair.1 as usize >= roles {
+            return Some(kind);
+        }
+    }
+    None
+}
+
+fn first_role_outside(roles: usize, processes: &[Process]) -> Option<usize>
+    ensures { IsFirstFailing (λ k. role_of processes.now k < roles) (length processes.now) result }
+{
+    for (k, process) in processes.iter().enumerate() {
+        if process.role as usize >= roles {
+            return Some(k);
+        }
+    }
+    None
+}
