@@ -1,0 +1,20 @@
+#!/usr/bin/env bash
+# Proves and builds a program of bench/ and prints where it stands: build.sh NAME CRATE.., for NAME.txt over these crates of the repository,
+# which must name those below them too. It is built outside the repository, since a program's source may stand only in a crate of the gate.
+top=$(cd "$(dirname "$0")/.." && pwd) || exit 1
+name=$1
+shift
+work=${TMPDIR:-/tmp}/$name
+crate=$work/crates/$name
+mkdir -p "$crate/src" && git init -q "$work" || exit 1
+: > "$work/crates.txt"
+for used in "$@"; do
+  tar c --exclude=out -C "$top" "crates/$used" | tar x -C "$work" || exit 1
+  grep "^$used:" "$top/crates.txt" >> "$work/crates.txt"
+done
+echo "$name: $*" >> "$work/crates.txt"
+cp "$top/bench/$name.txt" "$crate/src/main.rt"
+rm -f "$crate/out/$name"
+(cd "$crate" && rt run) > "$work/log" 2>&1
+[ -x "$crate/out/$name" ] || { tail -n 20 "$work/log" >&2; exit 1; }
+echo "$crate/out/$name"
