@@ -9,8 +9,14 @@ mod cursors;
 mod formula;
 mod holds;
 mod laws;
+mod members;
 mod next_row;
+mod normal;
+mod normal_fault;
+#[cfg(test)]
+mod normal_tests;
 mod pair_spec;
+mod part;
 mod predecessors;
 #[cfg(test)]
 mod samples;
@@ -18,6 +24,7 @@ mod solving;
 #[cfg(test)]
 mod tests;
 mod until_row;
+mod walking;
 
 pub use bit_row::BitRow;
 pub use clauses::Clauses;
@@ -27,6 +34,10 @@ pub use holds::holds_at;
 pub use laws::{
     always_expands, always_goes_on, each_unless_expands, each_until_expands, normal_means,
     some_unless_expands, some_until_expands, sometime_expands, truth_is_decided, until_expands,
+    walk_of_known_does_nothing,
 };
+pub use normal::Normal;
+pub use normal_fault::NormalFault;
 pub use pair_spec::PairSpec;
+pub use part::Part;
 pub use solving::solves;

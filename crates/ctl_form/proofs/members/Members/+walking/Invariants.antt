@@ -1,0 +1,31 @@
+use Rattle.std.proofs.Common.{ℕ, ◌+◌, ◌*◌}
+use Rattle.ctl_form.specs.Form.{form_of}
+use Rattle.ctl_form.specs.Walking.{operators}
+use Rattle.ctl_form.proofs.members.Members.+walking.Given as goal
+
+abbrev pub decreases-root_of : goal.decreases-root_of
+decreases-root_of l = 3 * operators (form_of l.f.now)
+
+abbrev pub decreases-root_of_pair : goal.decreases-root_of_pair
+decreases-root_of_pair l = 3 * (operators (form_of l.f.now) + operators (form_of l.g.now)) + 1
+
+abbrev pub decreases-root_of_next : goal.decreases-root_of_next
+decreases-root_of_next l = 3 * operators (form_of l.f.now) + 1
+
+abbrev pub decreases-root_of_nexts : goal.decreases-root_of_nexts
+decreases-root_of_nexts l = 3 * operators (form_of l.f.now) + 1
+
+abbrev pub decreases-root_of_lasting : goal.decreases-root_of_lasting
+decreases-root_of_lasting l = 3 * operators (form_of l.f.now) + 2
+
+abbrev pub decreases-root_of_ever : goal.decreases-root_of_ever
+decreases-root_of_ever l = 3 * operators (form_of l.f.now) + 1
+
+abbrev pub decreases-root_of_once : goal.decreases-root_of_once
+decreases-root_of_once l = 3 * operators (form_of l.f.now) + 1
+
+abbrev pub decreases-root_of_until : goal.decreases-root_of_until
+decreases-root_of_until l = 3 * (operators (form_of l.f.now) + operators (form_of l.g.now)) + 1
+
+abbrev pub decreases-root_of_release : goal.decreases-root_of_release
+decreases-root_of_release l = 3 * (operators (form_of l.f.now) + operators (form_of l.g.now)) + 1
