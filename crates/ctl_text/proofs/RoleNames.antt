@@ -31,6 +31,6 @@ pub names_of_role : (locals : Names) → ((p : ℕ) → p < length locals → Is
 names_of_role locals each differ = record {
   each_name = λ p lt. spelled (name_at locals p) (each p lt);
   each_once = λ p lt. found_at (λ x. bytes_eq x (name_at locals p)) locals p lt
-    (λ k below. false_from_ne_true (bytes_eq (name_at locals k) (name_at locals p)) (λ same. differ k p [] below lt ((bytes_eq-Decides (name_at locals k) (name_at locals p)).0 same)))
-    ((bytes_eq-Decides (name_at locals p) (name_at locals p)).1 refl);
+      (λ k below. false_from_ne_true (bytes_eq (name_at locals k) (name_at locals p)) (λ same. differ k p [] below lt ((bytes_eq-Decides (name_at locals k) (name_at locals p)).0 same)))
+      ((bytes_eq-Decides (name_at locals p) (name_at locals p)).1 refl);
 }
