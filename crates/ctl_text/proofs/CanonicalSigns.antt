@@ -1,5 +1,5 @@
 -- The canonical text of a formula, cut into tokens, says the signs of its canonical tree.
-use Rattle.std.proofs.Common.{ℕ, zero, suc, ◌≡◌, ◌<◌, ◌≤◌, Bool, true, false, ◌&&◌, ◌==◌, nat_le, Option, Some, None, List, [], ◌∷◌, ◌++◌, map, length, codes, refl, sym, ap, ◌∙◌, arith, append_assoc, append-nil}
+use Rattle.std.proofs.Common.{ℕ, ◌≡◌, ◌<◌, Bool, true, false, ◌&&◌, ◌==◌, nat_le, Option, Some, None, List, [], ◌∷◌, ◌++◌, map, length, codes, refl, ap, ◌∙◌, arith, append_assoc}
 use Rattle.std.proofs.lemmas.Bool.Decides.{nat_tests}
 use Rattle.std.specs.Char.{is_ascii_alphabetic}
 use Rattle.std.specs.List.{list_all}
@@ -15,7 +15,7 @@ use Rattle.ctl_text.specs.declared.sign.Sign.{Sign}
 use Rattle.ctl_text.specs.declared.sign.Sign.TheVariants.{Alone, Before, Open, Behind, Path, Until}
 use Rattle.ctl_text.specs.Canonical.{AreNames, IsOver}
 use Rattle.ctl_text.specs.FormulaText.{formula_text, name_at, path_letter, side_letters, until_letter}
-use Rattle.ctl_text.specs.Sign.{Names, sign_of, is_name, number_of}
+use Rattle.ctl_text.specs.Sign.{Names, sign_of, is_name}
 use Rattle.ctl_text.specs.Token.{tokens_of, is_gap, is_word_byte, are_joined}
 use Rattle.ctl_text.specs.Tree.{Tree, leaf, prefixed, grouped, conjunction, disjunction, implication, waits, signs, signs_of}
 

@@ -1,13 +1,11 @@
 -- What is spelled is read again, whatever follows it.
-use Rattle.std.proofs.Common.{ℕ, zero, suc, ◌≡◌, ◌≤◌, ◌+◌, Bool, Option, Some, None, List, [], ◌∷◌, ◌++◌, refl, arith, append_assoc, sym, subst}
-use Rattle.ctl_form.specs.Form.{Form, both, either, implies, until}
-use Rattle.ctl_text.specs.declared.sign.Leaf.{Leaf}
-use Rattle.ctl_text.specs.declared.sign.Mark.TheVariants.{And, Or, Arrow, Close, Left, Right}
-use Rattle.ctl_text.specs.declared.sign.Prefix.{Prefix}
+use Rattle.std.proofs.Common.{ℕ, ◌≡◌, ◌≤◌, ◌+◌, Bool, Some, None, List, [], ◌∷◌, ◌++◌, refl, arith, append_assoc, sym, subst}
+use Rattle.ctl_form.specs.Form.{implies, until}
+use Rattle.ctl_text.specs.declared.sign.Mark.TheVariants.{And, Or, Arrow, Close, Right}
 use Rattle.ctl_text.specs.declared.sign.Sign.{Sign}
-use Rattle.ctl_text.specs.declared.sign.Sign.TheVariants.{Alone, Before, Open, Behind, Path, Until}
-use Rattle.ctl_text.specs.Tree.{Tree, leaf, prefixed, grouped, conjunction, disjunction, implication, waits, signs, Fits, tree_form, leaf_form, prefix_form}
-use Rattle.ctl_text.specs.FormulaReading.{Part, formula, or, and, unary, or_more, and_more, wait, Found, past, parse}
+use Rattle.ctl_text.specs.declared.sign.Sign.TheVariants.{Behind, Until}
+use Rattle.ctl_text.specs.Tree.{Tree, leaf, prefixed, grouped, conjunction, disjunction, implication, waits, signs, Fits, tree_form}
+use Rattle.ctl_text.specs.FormulaReading.{Part, formula, or, and, unary, or_more, and_more, Found, past, parse}
 use Rattle.ctl_text.proofs.ReadingRules.{Gives, with_more, leaf_rule, prefix_rule, group_rule, wait_rule, and_rule, and_more_rule, and_ends, or_rule, or_more_rule, or_ends, formula_ends, arrow_rule}
 
 -- the fuel that the spelling takes where a unary stands

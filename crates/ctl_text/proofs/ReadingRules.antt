@@ -1,5 +1,5 @@
 -- One rule for each step of reading, with how much fuel it takes: a reading that has enough goes the same way with more.
-use Rattle.std.proofs.Common.{ℕ, zero, suc, ◌≡◌, ◌≤◌, ◌+◌, Bool, Option, Some, None, List, ◌∷◌, refl, arith}
+use Rattle.std.proofs.Common.{ℕ, zero, suc, ◌≡◌, ◌≤◌, ◌+◌, Bool, Some, None, List, ◌∷◌, refl, arith}
 use Rattle.ctl_form.specs.Form.{Form, both, either, implies, until}
 use Rattle.ctl_text.specs.declared.sign.Leaf.{Leaf}
 use Rattle.ctl_text.specs.declared.sign.Mark.TheVariants.{And, Or, Arrow, Close, Left, Right}
@@ -7,7 +7,7 @@ use Rattle.ctl_text.specs.declared.sign.Prefix.{Prefix}
 use Rattle.ctl_text.specs.declared.sign.Sign.{Sign}
 use Rattle.ctl_text.specs.declared.sign.Sign.TheVariants.{Alone, Before, Open, Behind, Path, Until}
 use Rattle.ctl_text.specs.Tree.{leaf_form, prefix_form}
-use Rattle.ctl_text.specs.FormulaReading.{Part, formula, or, and, unary, or_more, and_more, wait, Found, past, parse}
+use Rattle.ctl_text.specs.FormulaReading.{Part, formula, or, and, unary, or_more, and_more, Found, past, parse}
 
 -- with this much fuel or more, this is read
 pub record Gives (k : ℕ) (part : Part) (ss : List Sign) (x : Found) : Type 0 where

@@ -1,5 +1,5 @@
 -- The local states of a role are names, each once.
-use Rattle.std.proofs.Common.{ℕ, ◌≡◌, ◌≢◌, ◌<◌, ◌≤◌, ◌&&◌, Bool, true, false, nat_lt, nat_le, AllPairs, Some, List, [], ◌∷◌, length, get_or, position, refl, arith}
+use Rattle.std.proofs.Common.{ℕ, ◌≡◌, ◌≢◌, ◌<◌, Bool, true, false, nat_lt, nat_le, AllPairs, Some, List, [], ◌∷◌, length, get_or, position, refl, arith}
 use Rattle.std.proofs.lemmas.Bool.{false_from_ne_true}
 use Rattle.std.proofs.lemmas.Bool.Decides.{nat_tests}
 use Rattle.std.proofs.lemmas.List.Sums.{list_all-from_AllPass, position_or_len_is}
@@ -10,7 +10,7 @@ use Rattle.std.specs.Str.{bytes_eq}
 use Rattle.pair_structure.specs.Name.{IsName, is_name_byte}
 use Rattle.ctl_text.specs.Canonical.{AreNames}
 use Rattle.ctl_text.specs.FormulaText.{name_at}
-use Rattle.ctl_text.specs.Sign.{Names, is_name, number_of}
+use Rattle.ctl_text.specs.Sign.{Names, is_name}
 
 spelled : (name : List ℕ) → IsName name → is_name name ≡ true
 spelled [] e = absurd e

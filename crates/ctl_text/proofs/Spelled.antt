@@ -1,14 +1,14 @@
 -- Signs spell at most one formula, and reading them with enough fuel finds it.
-use Rattle.std.proofs.Common.{ℕ, ◌≡◌, ◌≤◌, ◌<◌, ◌+◌, ◌*◌, Option, Some, None, List, [], ◌∷◌, ◌++◌, length, refl, sym, ap, ◌∙◌, arith, subst, length-append, append-nil}
+use Rattle.std.proofs.Common.{ℕ, ◌≡◌, ◌≤◌, ◌<◌, ◌+◌, ◌*◌, Some, None, List, [], ◌∷◌, ◌++◌, length, sym, ap, ◌∙◌, arith, subst, length-append, append-nil}
 use Rattle.std.proofs.lemmas.Option.{some_pair_parts}
 use Rattle.ctl_form.specs.Form.{Form}
 use Rattle.ctl_text.specs.declared.sign.Mark.TheVariants.{And, Or, Arrow, Close, Right}
 use Rattle.ctl_text.specs.declared.sign.Sign.{Sign}
 use Rattle.ctl_text.specs.declared.sign.Sign.TheVariants.{Behind, Until}
 use Rattle.ctl_text.specs.Tree.{Tree, leaf, prefixed, grouped, conjunction, disjunction, implication, waits, signs, tree_form, Spells}
-use Rattle.ctl_text.specs.FormulaReading.{formula, Found, parse}
+use Rattle.ctl_text.specs.FormulaReading.{formula, parse}
 use Rattle.ctl_text.proofs.ReadAgain.{cost, whole_again}
-use Rattle.ctl_text.proofs.ReadTakes.{parse_takes, Spelled}
+use Rattle.ctl_text.proofs.ReadTakes.{parse_takes}
 
 -- the fuel is within five times the signs
 pub cost_small : (t : Tree) → cost t ≤ 5 * length (signs t)

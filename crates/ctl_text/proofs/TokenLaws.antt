@@ -1,11 +1,11 @@
 -- How bytes are cut into tokens, from the first byte on.
-use Rattle.std.proofs.Common.{ℕ, zero, suc, ◌≡◌, ◌<◌, ◌≤◌, ◌+◌, ◌-◌, Bool, true, false, not, List, [], ◌∷◌, ◌==◌, nat_lt, length, get_or, take, drop, refl, arith, position, Some, None, add-one, cond, ap, ◌∙◌, subst, inl, inr, map, ◌++◌, sym, append_assoc}
+use Rattle.std.proofs.Common.{ℕ, zero, suc, ◌≡◌, ◌<◌, ◌≤◌, ◌+◌, ◌-◌, Bool, true, false, not, List, [], ◌∷◌, nat_lt, length, get_or, take, drop, refl, arith, position, Some, None, cond, ap, ◌∙◌, subst, inl, inr, map, ◌++◌, sym, append_assoc}
 use Rattle.std.proofs.lemmas.Bool.{cases_lt}
 use Rattle.std.proofs.lemmas.Bool.Decides.{nat_tests}
 use Rattle.std.proofs.lemmas.List.Quantifiers.{position-Some}
 use Rattle.std.proofs.lemmas.List.Sums.{fails_before_first}
 use Rattle.std.specs.List.{flat_map, position_or_len}
-use Rattle.ctl_text.specs.Token.{tokens_of, is_gap, are_joined, joins, before_token}
+use Rattle.ctl_text.specs.Token.{tokens_of, is_gap, are_joined}
 
 chosen_none : (b : Bool) (n : ℕ) → cond b (Some n) None ≡ None → b ≡ false
 chosen_none true n e = cc

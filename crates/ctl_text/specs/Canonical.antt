@@ -1,5 +1,5 @@
 -- What the canonical text of a formula is promised to be: a spelling of it.
-use Rattle.std.specs.Prelude.{ℕ, ◌≡◌, ◌<◌, Option, Some, length, true}
+use Rattle.std.specs.Prelude.{ℕ, ◌≡◌, ◌<◌, Some, length, true}
 use Rattle.pair_structure.specs.declared.side.Side.TheVariants.{A, B}
 use Rattle.ctl_form.specs.Form.{Form, truth, falsity, at, neg, both, either, implies, next, always, sometime, until}
 use Rattle.ctl_text.specs.FormulaText.{formula_text, name_at}

@@ -1,10 +1,10 @@
 -- How signs are read as a formula, from left to right.
-use Rattle.std.specs.Prelude.{ℕ, zero, suc, Bool, Option, Some, None, List, [], ◌∷◌, ◌==◌, if◌then◌else◌}
+use Rattle.std.specs.Prelude.{ℕ, zero, suc, Bool, Option, Some, None, List, ◌∷◌, ◌==◌, if◌then◌else◌}
 use Rattle.ctl_form.specs.Form.{Form, both, either, implies, until}
 use Rattle.ctl_text.specs.declared.sign.Mark.{Mark}
 use Rattle.ctl_text.specs.declared.sign.Mark.TheVariants.{And, Or, Arrow, Close, Left, Right}
 use Rattle.ctl_text.specs.declared.sign.Sign.{Sign}
-use Rattle.ctl_text.specs.declared.sign.Sign.TheVariants.{Alone, Before, Open, Behind, Path, Until, Other}
+use Rattle.ctl_text.specs.declared.sign.Sign.TheVariants.{Alone, Before, Open, Behind, Path, Until}
 use Rattle.ctl_text.specs.Tree.{leaf_form, prefix_form}
 
 -- what is read next: a level of the grammar, what may follow an operand, or what follows the path of an until

@@ -1,4 +1,4 @@
-use Rattle.std.proofs.Common.{ℕ, ◌≤◌, ◌<◌, ◌+◌, ◌*◌, length, arith}
+use Rattle.std.proofs.Common.{◌≤◌, ◌<◌, ◌+◌, ◌*◌, length, arith}
 use Rattle.ctl_form.specs.Form.{form_of}
 use Rattle.ctl_text.proofs.Spelled.{none_outside, rest_outside, end_spelled}
 use Rattle.ctl_text.proofs.formula_reader.formula_of.Goals as goal

@@ -1,4 +1,4 @@
-use Rattle.std.proofs.Common.{ℕ, ◌+◌, List, [], Bor, get_or}
+use Rattle.std.proofs.Common.{ℕ, List, [], Bor, get_or}
 use Rattle.ctl_text.proofs.LongLaws.{most_next, most_step}
 use Rattle.ctl_text.proofs.long.most_open.Goals as goal
 

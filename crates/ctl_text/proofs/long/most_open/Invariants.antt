@@ -1,4 +1,4 @@
-use Rattle.std.proofs.Common.{◌≡◌, ◌≤◌, ◌+◌, map, drop, max}
+use Rattle.std.proofs.Common.{◌≡◌, ◌≤◌, map, drop, max}
 use Rattle.ctl_text.specs.Long.{most_open}
 use Rattle.ctl_text.proofs.long.most_open.Given as goal
 

@@ -1,4 +1,3 @@
-use Rattle.std.proofs.Common.{ℕ, ◌≡◌, ◌+◌, ◌-◌, ◌<◌, suc, arith}
 use Rattle.ctl_text.proofs.TokenLaws.{token_cut_at}
 use Rattle.ctl_text.proofs.token.cut_token.Goals as goal
 

@@ -1,6 +1,4 @@
-use Rattle.std.proofs.Common.{◌≡◌, ◌++◌, ℕ, List, [], map, drop, length, ◌+◌, Bor, ap, sym, ◌∙◌, append_assoc}
-use Rattle.std.specs.List.{flat_map}
-use Rattle.ctl_text.specs.Token.{tokens_of}
+use Rattle.std.proofs.Common.{ℕ, List, [], Bor}
 use Rattle.ctl_text.proofs.TokenLaws.{tokens_more, words_step}
 use Rattle.ctl_text.proofs.token.tokens_of.Goals as goal
 
