@@ -1,0 +1,9 @@
+pub mod Canonical
+pub mod CanonicalSigns
+pub mod LongLaws
+pub mod ReadAgain
+pub mod ReadTakes
+pub mod ReadingRules
+pub mod RoleNames
+pub mod Spelled
+pub mod TokenLaws
