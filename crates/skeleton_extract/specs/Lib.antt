@@ -1,0 +1,8 @@
+pub mod ArcNumbers
+pub mod Commands
+pub mod Gathered
+pub mod Laws
+pub mod Permission
+pub mod Place
+pub mod Sides
+pub mod SkeletonText

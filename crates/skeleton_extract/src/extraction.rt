@@ -1,0 +1,105 @@
+ghost use Rattle.std.specs.Prelude.{◌≡◌, ◌<◌, IfOk, length};
+ghost use Rattle.pair_structure.specs.Structure.{IsOver};
+ghost use Rattle.skeleton_extract.specs.Commands.{AreListed, IsSkeleton};
+ghost use Rattle.skeleton_extract.specs.Gathered.{AreFollowed, AreGathered, command_of, number_of};
+ghost use Rattle.skeleton_extract.specs.Sides.{opposite, part};
+
+use crate::arc_numbers::ArcNumbers;
+use crate::command_lists::CommandLists;
+use crate::{Command, Skeleton};
+use pair_structure::{Memory, Move, PairStructure, Role, Side};
+use std::alloc::{AllocError, Global};
+
+/// The commands of the moves of a structure over the two roles. Two passes over the moves; moves times their logarithm, to put the
+/// commands of each arc in order.
+pub fn extract(
+    alloc: Global,
+    m: &PairStructure,
+    a: &Role,
+    b: &Role,
+) -> Result<Skeleton, Memory>
+    requires { IsOver a.now b.now m.now }
+    ensures { IfOk result (IsSkeleton a.now b.now m.now) }
+{
+    let of_a = listed(alloc, m, Side::A, a)?;
+    let of_b = listed(alloc, m, Side::B, b)?;
+    Ok(Skeleton::of(of_a, of_b))
+}
+
+/// The commands of one side, by the numbers of its arcs.
+fn listed(
+    alloc: Global,
+    m: &PairStructure,
+    side: Side,
+    role: &Role,
+) -> Result<CommandLists, AllocError>
+    requires { AreFollowed m.now side role.now.arcs }
+    ensures { IfOk result (AreListed m.now side role.now.arcs) }
+{
+    let mut lists = gathered(alloc, m, side, role)?;
+    lists.arrange();
+    Ok(lists)
+}
+
+/// The commands of one side in the order of the moves.
+fn gathered(
+    alloc: Global,
+    m: &PairStructure,
+    side: Side,
+    role: &Role,
+) -> Result<CommandLists, AllocError>
+    requires { AreFollowed m.now side role.now.arcs }
+    ensures { IfOk result (AreGathered m.now.states m.now.moves side role.now.arcs) }
+{
+    let numbers = ArcNumbers::of_role(role);
+    let mut lists = CommandLists::empty(alloc, role.arcs().len())?;
+    for step in m.moves() {
+        if step.side == side {
+            let arc = number_of(m, &numbers, step);
+            lists.push(arc as usize, command_of(m, step))?;
+        }
+    }
+    Ok(lists)
+}
+
+/// The number of the arc that the move takes.
+fn number_of(m: &PairStructure, numbers: &ArcNumbers, step: &Move) -> u8
+    requires from { step.now.from < length m.now.states }
+    requires to { step.now.to < length m.now.states }
+    ensures { result ≡ number_of m.now.states numbers.now.rows step.now }
+{
+    let from = m.states()[step.from as usize];
+    let to = m.states()[step.to as usize];
+    numbers.number(part(step.side, from), part(step.side, to))
+}
+
+/// What the move commands.
+fn command_of(m: &PairStructure, step: &Move) -> Command
+    requires from { step.now.from < length m.now.states }
+    requires to { step.now.to < length m.now.states }
+    ensures { result ≡ command_of m.now.states step.now }
+{
+    Command {
+        other: part(opposite(step.side), m.states()[step.from as usize]),
+        x: m.ordinal(step.from),
+        set: m.ordinal(step.to),
+    }
+}
+
+fn part(side: Side, label: (u8, u8)) -> u8
+    ensures { result ≡ part side label }
+{
+    match side {
+        Side::A => label.0,
+        Side::B => label.1,
+    }
+}
+
+fn opposite(side: Side) -> Side
+    ensures { result ≡ opposite side }
+{
+    match side {
+        Side::A => Side::B,
+        Side::B => Side::A,
+    }
+}
