@@ -1,0 +1,9 @@
+pub mod Cause
+pub mod Item
+pub mod ItemReading
+pub mod Lines
+pub mod Required
+pub mod State
+pub mod Text
+pub mod Value
+pub mod View
