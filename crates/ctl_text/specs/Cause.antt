@@ -71,9 +71,8 @@ abbrev pub RoleEndStands : List (List ℕ) → List LocalArc → TextCause → T
 RoleEndStands names made cause = (p : ℕ) × (cause ≡ NoArc p) × IsFirstStuck names made p
 
 -- against a kind over two roles
-abbrev pub KindStands : SpecParts → List ℕ → List ℕ → List ℕ → TextCause → Type 0
-KindStands v name a b cause =
-    UseStands (role_names v.roles) a cause ⊎ (UseStands (role_names v.roles) b cause ⊎ NameStands (kind_names v.kinds) 16 name cause)
+abbrev pub KindStands : List RoleParts → List PairSpec → List ℕ → List ℕ → List ℕ → TextCause → Type 0
+KindStands roles kinds name a b cause = UseStands (role_names roles) a cause ⊎ (UseStands (role_names roles) b cause ⊎ NameStands (kind_names kinds) 16 name cause)
 
 -- against a clause of an open kind
 abbrev pub ClauseStands : List RoleParts → PairSpec → Spelling → TextCause → Type 0
@@ -84,8 +83,8 @@ abbrev pub KindEndStands : List RoleParts → PairSpec → TextCause → Type 0
 KindEndStands roles k cause = (cause ≡ ClosureOver) × IsClosureOver (role_at roles k.role_a) (role_at roles k.role_b) k.clauses
 
 -- against a process of a role
-abbrev pub ProcessStands : SpecParts → List ℕ → List ℕ → TextCause → Type 0
-ProcessStands v name r cause = UseStands (role_names v.roles) r cause ⊎ NameStands (process_names v.processes) 1024 name cause
+abbrev pub ProcessStands : List RoleParts → List Process → List ℕ → List ℕ → TextCause → Type 0
+ProcessStands roles processes name r cause = UseStands (role_names roles) r cause ⊎ NameStands (process_names processes) 1024 name cause
 
 -- the process is one of two and has 32 edges
 pub record IsCrowded (edges : List Edge) (p q k : ℕ) : Type 0 where
@@ -98,25 +97,25 @@ pub record IsFirstCrowded (edges : List Edge) (p q k : ℕ) : Type 0 where
   pub first : (other : ℕ) → IsCrowded edges p q other → k ≤ other
 
 -- the processes have the roles of the kind's sides
-pub record AreOfKind (v : SpecParts) (p q kind : ℕ) : Type 0 where
-  pub role_a : (process_at v.processes p).role ≡ (kind_at v.kinds kind).role_a
-  pub role_b : (process_at v.processes q).role ≡ (kind_at v.kinds kind).role_b
+pub record AreOfKind (processes : List Process) (kinds : List PairSpec) (p q kind : ℕ) : Type 0 where
+  pub role_a : (process_at processes p).role ≡ (kind_at kinds kind).role_a
+  pub role_b : (process_at processes q).role ≡ (kind_at kinds kind).role_b
 
--- against an edge between two processes by their numbers
-abbrev pub JoinStands : SpecParts → ℕ → ℕ → ℕ → TextCause → Type 0
-JoinStands v p q kind cause =
+-- against an edge between two processes, all by their numbers
+abbrev pub JoinStands : List Process → List PairSpec → List Edge → ℕ → ℕ → ℕ → TextCause → Type 0
+JoinStands processes kinds edges p q kind cause =
     ((cause ≡ SelfEdge) × (p ≡ q))
-    ⊎ (((cause ≡ EdgeTwice) × AreJoined v.edges p q)
-    ⊎ (((k : ℕ) × (cause ≡ DegreeOver k) × IsFirstCrowded v.edges p q k)
-    ⊎ ((cause ≡ RoleMismatch) × (AreOfKind v p q kind → ⊥))))
+    ⊎ (((cause ≡ EdgeTwice) × AreJoined edges p q)
+    ⊎ (((k : ℕ) × (cause ≡ DegreeOver k) × IsFirstCrowded edges p q k)
+    ⊎ ((cause ≡ RoleMismatch) × (AreOfKind processes kinds p q kind → ⊥))))
 
--- against an edge of a kind between two processes
-abbrev pub EdgeStands : SpecParts → List ℕ → List ℕ → List ℕ → TextCause → Type 0
-EdgeStands v p q kind cause =
-    UseStands (process_names v.processes) p cause
-    ⊎ (UseStands (process_names v.processes) q cause
-    ⊎ (UseStands (kind_names v.kinds) kind cause
-    ⊎ JoinStands v (number_in (process_names v.processes) p) (number_in (process_names v.processes) q) (number_in (kind_names v.kinds) kind) cause))
+-- against an edge between two processes
+abbrev pub EdgeStands : List Process → List PairSpec → List Edge → List ℕ → List ℕ → List ℕ → TextCause → Type 0
+EdgeStands processes kinds edges p q kind cause =
+    UseStands (process_names processes) p cause
+    ⊎ (UseStands (process_names processes) q cause
+    ⊎ (UseStands (kind_names kinds) kind cause
+    ⊎ JoinStands processes kinds edges (number_in (process_names processes) p) (number_in (process_names processes) q) (number_in (kind_names kinds) kind) cause))
 
 abbrev pub LocalBlocks : Group → List ℕ → TextCause → Type 0
 LocalBlocks (in_locals n names) name cause = NameStands names 32 name cause
@@ -145,11 +144,11 @@ Blocks s (role_line name) cause = NameStands (role_names s.parts.roles) 16 name 
 Blocks s (local_line name) cause = LocalBlocks s.group name cause
 Blocks s (start_line name) cause = StartBlocks s.group name cause
 Blocks s (arc_line p q free) cause = ArcBlocks s.group p q cause
-Blocks s (kind_line name a b) cause = KindStands s.parts name a b cause
+Blocks s (kind_line name a b) cause = KindStands s.parts.roles s.parts.kinds name a b cause
 Blocks s (require_line words clause) cause = ClauseBlocks s.parts.roles s.group clause cause
 Blocks s end_line cause = EndBlocks s.parts.roles s.group cause
-Blocks s (process_line name r) cause = ProcessStands s.parts name r cause
-Blocks s (edge_line p q kind) cause = EdgeStands s.parts p q kind cause
+Blocks s (process_line name r) cause = ProcessStands s.parts.roles s.parts.processes name r cause
+Blocks s (edge_line p q kind) cause = EdgeStands s.parts.processes s.parts.kinds s.parts.edges p q kind cause
 Blocks s item cause = ⊥
 
 -- the words say something that may stand there

@@ -3,6 +3,7 @@ pub mod Item
 pub mod ItemReading
 pub mod Lines
 pub mod Required
+pub mod Sound
 pub mod State
 pub mod Text
 pub mod Value

@@ -2,9 +2,14 @@
 #![tactic(auto)]
 
 mod cause;
+mod edges;
 mod item;
 mod line;
+mod names;
 mod network;
+mod place;
+mod processes;
+mod role_cause;
 
 pub use cause::{TextCause, TextFault};
 pub use network::{Edge, Process};
