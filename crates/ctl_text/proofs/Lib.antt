@@ -1,7 +1,13 @@
 pub mod CauseRows
+pub mod Clauses
+pub mod Crowded
 pub mod ItemLaws
+pub mod Judged
+pub mod Kept
 pub mod LineLaws
 pub mod Lowest
 pub mod NameBytes
 pub mod Named
+pub mod Options
 pub mod RequiredLaws
+pub mod TextLaws

@@ -152,8 +152,8 @@ Blocks s (edge_line p q kind) cause = EdgeStands s.parts.processes s.parts.kinds
 Blocks s item cause = ⊥
 
 -- the words say something that may stand there
-abbrev pub MaySay : State → List (List ℕ) → Said → Type 0
-MaySay s words item = Says words item × MayStand s.group item
+abbrev pub MaySay : Group → List (List ℕ) → Said → Type 0
+MaySay group words item = Says words item × MayStand group item
 
 -- a clause is required that is too long
 abbrev pub IsLongLine : List (List ℕ) → Type 0
@@ -165,8 +165,8 @@ abbrev pub WordsStand : State → List (List ℕ) → TextCause → Type 0
 WordsStand s words cause =
     ((cause ≡ BadHead) × (s.group ≡ before_head) × (words ≢ words_for head_line))
     ⊎ (((cause ≡ Long) × IsLongLine words)
-    ⊎ (((cause ≡ BadLine) × ((item : Said) → MaySay s words item → ⊥))
-    ⊎ ((item : Said) × MaySay s words item × Blocks s item cause)))
+    ⊎ (((cause ≡ BadLine) × ((item : Said) → MaySay s.group words item → ⊥))
+    ⊎ ((item : Said) × MaySay s.group words item × Blocks s item cause)))
 
 -- what stands against a line, below this state
 abbrev pub Stands : State → List ℕ → TextCause → Type 0
@@ -174,7 +174,7 @@ Stands s line cause = ((cause ≡ NotText) × (IsText line → ⊥)) ⊎ ((ArePa
 
 -- the words say what leaves this state
 pub record Leaves (s : State) (words : List (List ℕ)) (item : Said) (t : State) : Type 0 where
-  pub may : MaySay s words item
+  pub may : MaySay s.group words item
   pub next : t ≡ after s item
 
 -- nothing stands against the line, and it leaves this state

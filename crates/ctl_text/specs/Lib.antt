@@ -1,7 +1,10 @@
+pub mod Answers
 pub mod Cause
 pub mod Item
 pub mod ItemReading
+pub mod Judged
 pub mod Lines
+pub mod Reads
 pub mod Required
 pub mod Sound
 pub mod State

@@ -73,8 +73,13 @@ with_arc group p q free = group
 abbrev pub form_for : List RoleParts → PairSpec → Spelling → Form
 form_for roles k clause = form_in (role_at roles k.role_a).locals (role_at roles k.role_b).locals clause
 
+-- the open kind with one more clause
+abbrev pub with_form : Group → Form → Group
+with_form (in_kind k) form = in_kind (record { name = k.name; role_a = k.role_a; role_b = k.role_b; clauses = k.clauses ++ form ∷ [] })
+with_form group form = group
+
 abbrev pub with_clause : List RoleParts → Group → Spelling → Group
-with_clause roles (in_kind k) clause = in_kind (record { name = k.name; role_a = k.role_a; role_b = k.role_b; clauses = k.clauses ++ form_for roles k clause ∷ [] })
+with_clause roles (in_kind k) clause = with_form (in_kind k) (form_for roles k clause)
 with_clause roles group clause = group
 
 -- an open role or kind is declared where it ends
