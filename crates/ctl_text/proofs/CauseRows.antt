@@ -1,5 +1,5 @@
 -- The lowest cause against a line, rule by rule.
-use Rattle.std.proofs.Common.{ℕ, ◌≡◌, ◌<◌, ◌≤◌, ◌⊎◌, inl, inr, List, length, Contains, refl, ap, arith}
+use Rattle.std.proofs.Common.{ℕ, ◌≡◌, ◌≤◌, List, length, Contains, refl, ap, arith}
 use Rattle.pair_structure.specs.declared.side.LocalArc.{LocalArc}
 use Rattle.pair_structure.specs.Role.{RoleParts, HasArc}
 use Rattle.ctl_form.specs.declared.pair_spec.PairSpec.{PairSpec}
@@ -8,7 +8,7 @@ use Rattle.ctl_text.specs.declared.network.Edge.{Edge}
 use Rattle.ctl_text.specs.declared.cause.TextCause.{TextCause}
 use Rattle.ctl_text.specs.declared.cause.TextCause.TheVariants.{UnknownName, Twice, SelfArc, TooMany, SelfEdge, EdgeTwice, DegreeOver, RoleMismatch}
 use Rattle.ctl_text.specs.Value.{role_names, kind_names, process_names, number_in, AreJoined}
-use Rattle.ctl_text.specs.Cause.{IsLowest, IsFree, NameStands, UseStands, ArcStands, KindStands, ProcessStands, JoinStands, EdgeStands, IsFirstCrowded, IsCrowded, AreOfKind, cause_no}
+use Rattle.ctl_text.specs.Cause.{IsLowest, IsFree, NameStands, UseStands, ArcStands, JoinStands, EdgeStands, IsFirstCrowded, IsCrowded, AreOfKind, cause_no}
 use Rattle.ctl_text.proofs.Lowest.{Row, Or, From, from_row, from_or, row_lowest, row_free, or_free, or_left, or_right}
 
 abbrev Declared : List (List ℕ) → List ℕ → TextCause → Type 0

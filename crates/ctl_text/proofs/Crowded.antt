@@ -1,5 +1,5 @@
 -- Which of two processes is the first with 32 edges.
-use Rattle.std.proofs.Common.{ℕ, ◌≡◌, ◌≤◌, ◌⊎◌, inl, inr, List, refl, sym, ap, arith}
+use Rattle.std.proofs.Common.{ℕ, ◌≡◌, ◌≤◌, ◌⊎◌, inl, inr, List, refl, arith}
 use Rattle.ctl_text.specs.declared.network.Edge.{Edge}
 use Rattle.ctl_text.specs.Value.{degree_of}
 use Rattle.ctl_text.specs.Cause.{IsCrowded, IsFirstCrowded}

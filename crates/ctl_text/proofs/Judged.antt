@@ -1,15 +1,15 @@
 -- What stands against a line, from what stands against what it says.
-use Rattle.std.proofs.Common.{ℕ, ◌≡◌, ◌<◌, ◌≤◌, ◌⊎◌, inl, inr, List, [], ◌∷◌, codes, refl, sym, ap, ◌∙◌, arith, subst, true, false}
+use Rattle.std.proofs.Common.{ℕ, ◌≡◌, ◌<◌, ◌≤◌, inl, inr, List, [], ◌∷◌, refl, sym, ap, ◌∙◌, arith, subst, true, false}
 use Rattle.ctl_text.specs.declared.cause.TextCause.{TextCause}
 use Rattle.ctl_text.specs.declared.cause.TextCause.TheVariants.{NotText, BadHead, Long, BadLine, UnknownName, Twice, SelfArc, NoArc, TooMany, ClosureOver, SelfEdge, EdgeTwice, DegreeOver, RoleMismatch, NotAPair, NotRising, Disagree}
 use Rattle.ctl_text.specs.Lines.{words_of, IsText, ArePassed, IsRequire}
-use Rattle.ctl_text.specs.Item.{Said, head_line, words_for, Says}
+use Rattle.ctl_text.specs.Item.{Said, head_line, words_for}
 use Rattle.ctl_text.specs.State.{State, Group, before_head, among_roles, in_locals, in_arcs, among_kinds, in_kind, among_processes, among_edges, after_done, MayStand, after}
-use Rattle.ctl_text.specs.Cause.{IsLowest, IsFree, cause_no, Blocks, MaySay, IsLongLine, WordsStand, Stands, Takes, Leaves}
+use Rattle.ctl_text.specs.Cause.{IsLowest, IsFree, cause_no, Blocks, MaySay, IsLongLine, WordsStand, Stands, Takes}
 use Rattle.ctl_text.specs.declared.cause.LineFault.{LineFault}
 use Rattle.ctl_text.specs.declared.cause.LineFault.TheVariants.{Bad, Memory}
-use Rattle.ctl_text.specs.Judged.{IsTakenAs, IsBadBy, misplaced}
-use Rattle.ctl_text.proofs.ItemLaws.{says_once}
+use Rattle.ctl_text.specs.Judged.{IsTakenAs, IsBadBy, CanSay, misplaced}
+use Rattle.ctl_text.proofs.ItemLaws.{says_once, other_clause}
 
 head_only : (g : Group) (x : Said) → MayStand g x → g ≡ before_head → x ≡ head_line
 head_only before_head head_line may is = refl
@@ -20,71 +20,74 @@ number_is : (c d : TextCause) → c ≡ d → cause_no c ≡ cause_no d
 number_is c d e = ap cause_no e
 
 -- where the words say nothing that may stand there: above the head
-head_below : (s : State) (words : List (List ℕ)) → ((item : Said) → MaySay s.group words item → ⊥) → (other : TextCause) → cause_no other < 2 → WordsStand s words other → ⊥
+head_below : (s : State) (words : List (List ℕ)) → ((item : Said) → MaySay s words item → ⊥) → (other : TextCause) → cause_no other < 2 → WordsStand s words other → ⊥
 head_below s words none other lt (inl h) = let e = number_is other BadHead h.0 in omega arith
 head_below s words none other lt (inr (inl h)) = let e = number_is other Long h.0 in omega arith
 head_below s words none other lt (inr (inr (inl h))) = let e = number_is other BadLine h.0 in omega arith
 head_below s words none other lt (inr (inr (inr (item, may, blocks)))) = none item may
 
-not_head : (g : Group) (words : List (List ℕ)) → g ≡ before_head → ((item : Said) → MaySay g words item → ⊥) → words ≡ words_for head_line → ⊥
-not_head g words is none words_are = none head_line (record { words_are = words_are; spelled = tt }, subst (λ g. MayStand g head_line) (sym is) tt)
+not_head : (s : State) (words : List (List ℕ)) → s.group ≡ before_head → ((item : Said) → MaySay s words item → ⊥) → words ≡ words_for head_line → ⊥
+not_head s words is none words_are = none head_line (record { words_are = words_are; spelled = tt }, subst (λ g. MayStand g head_line) (sym is) tt, tt)
 
-pub head_lowest : (s : State) (words : List (List ℕ)) → s.group ≡ before_head → ((item : Said) → MaySay s.group words item → ⊥) → IsLowest (WordsStand s words) BadHead
-head_lowest s words is none = record { stands = inl (refl, is, not_head s.group words is none); lowest = head_below s words none }
+pub head_lowest : (s : State) (words : List (List ℕ)) → s.group ≡ before_head → ((item : Said) → MaySay s words item → ⊥) → IsLowest (WordsStand s words) BadHead
+head_lowest s words is none = record { stands = inl (refl, is, not_head s words is none); lowest = head_below s words none }
 
 -- and below it
-line_below : (s : State) (words : List (List ℕ)) → (s.group ≡ before_head → ⊥) → (IsLongLine words → ⊥) → ((item : Said) → MaySay s.group words item → ⊥) → (other : TextCause) → cause_no other < 4 → WordsStand s words other → ⊥
+line_below : (s : State) (words : List (List ℕ)) → (s.group ≡ before_head → ⊥) → (IsLongLine words → ⊥) → ((item : Said) → MaySay s words item → ⊥) → (other : TextCause) → cause_no other < 4 → WordsStand s words other → ⊥
 line_below s words below short none other lt (inl h) = below h.1
 line_below s words below short none other lt (inr (inl h)) = short h.1
 line_below s words below short none other lt (inr (inr (inl h))) = let e = number_is other BadLine h.0 in omega arith
 line_below s words below short none other lt (inr (inr (inr (item, may, blocks)))) = none item may
 
-pub line_lowest : (s : State) (words : List (List ℕ)) → (s.group ≡ before_head → ⊥) → (IsLongLine words → ⊥) → ((item : Said) → MaySay s.group words item → ⊥) → IsLowest (WordsStand s words) BadLine
+pub line_lowest : (s : State) (words : List (List ℕ)) → (s.group ≡ before_head → ⊥) → (IsLongLine words → ⊥) → ((item : Said) → MaySay s words item → ⊥) → IsLowest (WordsStand s words) BadLine
 line_lowest s words below short none = record { stands = inr (inr (inl (refl, none))); lowest = line_below s words below short none }
 
 pub no_long : (words : List (List ℕ)) → (IsRequire words → ⊥) → IsLongLine words → ⊥
 no_long [] other h = h
 no_long (word ∷ words) other h = other h.0
 
-moved : (g h : Group) (words : List (List ℕ)) → g ≡ h → ((item : Said) → MaySay h words item → ⊥) → (item : Said) → MaySay g words item → ⊥
-moved g h words e none item may = none item (subst (λ g. MaySay g words item) e may)
+moved : (s : State) (h : Group) (words : List (List ℕ)) → s.group ≡ h → ((item : Said) → CanSay h words item → ⊥) → (item : Said) → MaySay s words item → ⊥
+moved s h words e none item may = none item (may.0, subst (λ g. MayStand g item) e may.1)
 
-pub misplaced_lowest : (s : State) (g : Group) (words : List (List ℕ)) → s.group ≡ g → (IsRequire words → ⊥) → ((item : Said) → MaySay g words item → ⊥) → IsLowest (WordsStand s words) (misplaced g)
-misplaced_lowest s before_head words is other none = head_lowest s words is (moved s.group _ words is none)
-misplaced_lowest s among_roles words is other none = line_lowest s words (λ e. let h = sym is ∙ e in cc) (no_long words other) (moved s.group _ words is none)
-misplaced_lowest s (in_locals n names) words is other none = line_lowest s words (λ e. let h = sym is ∙ e in cc) (no_long words other) (moved s.group _ words is none)
-misplaced_lowest s (in_arcs r) words is other none = line_lowest s words (λ e. let h = sym is ∙ e in cc) (no_long words other) (moved s.group _ words is none)
-misplaced_lowest s among_kinds words is other none = line_lowest s words (λ e. let h = sym is ∙ e in cc) (no_long words other) (moved s.group _ words is none)
-misplaced_lowest s (in_kind k) words is other none = line_lowest s words (λ e. let h = sym is ∙ e in cc) (no_long words other) (moved s.group _ words is none)
-misplaced_lowest s among_processes words is other none = line_lowest s words (λ e. let h = sym is ∙ e in cc) (no_long words other) (moved s.group _ words is none)
-misplaced_lowest s among_edges words is other none = line_lowest s words (λ e. let h = sym is ∙ e in cc) (no_long words other) (moved s.group _ words is none)
-misplaced_lowest s after_done words is other none = line_lowest s words (λ e. let h = sym is ∙ e in cc) (no_long words other) (moved s.group _ words is none)
+pub misplaced_lowest : (s : State) (g : Group) (words : List (List ℕ)) → s.group ≡ g → (IsRequire words → ⊥) → ((item : Said) → CanSay g words item → ⊥) → IsLowest (WordsStand s words) (misplaced g)
+misplaced_lowest s before_head words is other none = head_lowest s words is (moved s _ words is none)
+misplaced_lowest s among_roles words is other none = line_lowest s words (λ e. let h = sym is ∙ e in cc) (no_long words other) (moved s _ words is none)
+misplaced_lowest s (in_locals n names) words is other none = line_lowest s words (λ e. let h = sym is ∙ e in cc) (no_long words other) (moved s _ words is none)
+misplaced_lowest s (in_arcs r) words is other none = line_lowest s words (λ e. let h = sym is ∙ e in cc) (no_long words other) (moved s _ words is none)
+misplaced_lowest s among_kinds words is other none = line_lowest s words (λ e. let h = sym is ∙ e in cc) (no_long words other) (moved s _ words is none)
+misplaced_lowest s (in_kind k) words is other none = line_lowest s words (λ e. let h = sym is ∙ e in cc) (no_long words other) (moved s _ words is none)
+misplaced_lowest s among_processes words is other none = line_lowest s words (λ e. let h = sym is ∙ e in cc) (no_long words other) (moved s _ words is none)
+misplaced_lowest s among_edges words is other none = line_lowest s words (λ e. let h = sym is ∙ e in cc) (no_long words other) (moved s _ words is none)
+misplaced_lowest s after_done words is other none = line_lowest s words (λ e. let h = sym is ∙ e in cc) (no_long words other) (moved s _ words is none)
+
+pub may_say : (s : State) (words : List (List ℕ)) (item : Said) → (IsRequire words → ⊥) → CanSay s.group words item → MaySay s words item
+may_say s words item other can = (can.0, can.1, other_clause s words item other can.0)
 
 -- where the words say something that may stand there
-said_head : (g : Group) (words : List (List ℕ)) (item : Said) → MaySay g words item → g ≡ before_head → words ≡ words_for head_line
-said_head g words item may is = may.0.words_are ∙ ap words_for (head_only g item may.1 is)
+said_head : (s : State) (words : List (List ℕ)) (item : Said) → MaySay s words item → s.group ≡ before_head → words ≡ words_for head_line
+said_head s words item may is = may.0.words_are ∙ ap words_for (head_only s.group item may.1 is)
 
-blocked_below : (s : State) (words : List (List ℕ)) (item : Said) (cause : TextCause) → MaySay s.group words item → (IsLongLine words → ⊥) → IsLowest (Blocks s item) cause → (other : TextCause) → cause_no other < cause_no cause → WordsStand s words other → ⊥
-blocked_below s words item cause may short least other lt (inl h) = h.2 (said_head s.group words item may h.1)
+blocked_below : (s : State) (words : List (List ℕ)) (item : Said) (cause : TextCause) → MaySay s words item → (IsLongLine words → ⊥) → IsLowest (Blocks s item) cause → (other : TextCause) → cause_no other < cause_no cause → WordsStand s words other → ⊥
+blocked_below s words item cause may short least other lt (inl h) = h.2 (said_head s words item may h.1)
 blocked_below s words item cause may short least other lt (inr (inl h)) = short h.1
 blocked_below s words item cause may short least other lt (inr (inr (inl h))) = h.1 item may
 blocked_below s words item cause may short least other lt (inr (inr (inr (y, y_may, blocks)))) =
-    least.lowest other lt (subst (λ y. Blocks s y other) (says_once words y item y_may.0 may.0) blocks)
+    least.lowest other lt (subst (λ y. Blocks s y other) (says_once s words y item y_may may) blocks)
 
-pub blocked_lowest : (s : State) (words : List (List ℕ)) (item : Said) (cause : TextCause) → MaySay s.group words item → (IsLongLine words → ⊥) → IsLowest (Blocks s item) cause → IsLowest (WordsStand s words) cause
+pub blocked_lowest : (s : State) (words : List (List ℕ)) (item : Said) (cause : TextCause) → MaySay s words item → (IsLongLine words → ⊥) → IsLowest (Blocks s item) cause → IsLowest (WordsStand s words) cause
 blocked_lowest s words item cause may short least = record { stands = inr (inr (inr (item, may, least.stands))); lowest = blocked_below s words item cause may short least }
 
-free_words : (s : State) (words : List (List ℕ)) (item : Said) → MaySay s.group words item → (IsLongLine words → ⊥) → IsFree (Blocks s item) → (other : TextCause) → WordsStand s words other → ⊥
-free_words s words item may short free other (inl h) = h.2 (said_head s.group words item may h.1)
+free_words : (s : State) (words : List (List ℕ)) (item : Said) → MaySay s words item → (IsLongLine words → ⊥) → IsFree (Blocks s item) → (other : TextCause) → WordsStand s words other → ⊥
+free_words s words item may short free other (inl h) = h.2 (said_head s words item may h.1)
 free_words s words item may short free other (inr (inl h)) = short h.1
 free_words s words item may short free other (inr (inr (inl h))) = h.1 item may
 free_words s words item may short free other (inr (inr (inr (y, y_may, blocks)))) =
-    free.free other (subst (λ y. Blocks s y other) (says_once words y item y_may.0 may.0) blocks)
+    free.free other (subst (λ y. Blocks s y other) (says_once s words y item y_may may) blocks)
 
-pub words_free : (s : State) (words : List (List ℕ)) (item : Said) → MaySay s.group words item → (IsLongLine words → ⊥) → IsFree (Blocks s item) → IsFree (WordsStand s words)
+pub words_free : (s : State) (words : List (List ℕ)) (item : Said) → MaySay s words item → (IsLongLine words → ⊥) → IsFree (Blocks s item) → IsFree (WordsStand s words)
 words_free s words item may short free = record { free = free_words s words item may short free }
 
-pub taken_as : (s t : State) (words : List (List ℕ)) (item : Said) → MaySay s.group words item → (IsLongLine words → ⊥) → IsFree (Blocks s item) → t ≡ after s item → IsTakenAs s words t
+pub taken_as : (s t : State) (words : List (List ℕ)) (item : Said) → MaySay s words item → (IsLongLine words → ⊥) → IsFree (Blocks s item) → t ≡ after s item → IsTakenAs s words t
 taken_as s t words item may short free next = record { free = words_free s words item may short free; item = item; leaves = record { may = may; next = next } }
 
 -- from the words to the line

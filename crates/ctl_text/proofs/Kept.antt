@@ -1,5 +1,5 @@
 -- What a line that is taken keeps.
-use Rattle.std.proofs.Common.{ℕ, zero, suc, ◌≡◌, ◌≢◌, ◌<◌, ◌≤◌, ◌+◌, ◌⊎◌, inl, inr, Bool, true, false, List, [], ◌∷◌, ◌++◌, length, get_or, Any, Contains, ◌==◌, refl, sym, ap, ◌∙◌, arith, length-append}
+use Rattle.std.proofs.Common.{ℕ, zero, suc, ◌≡◌, ◌≢◌, ◌<◌, ◌≤◌, ◌+◌, ◌⊎◌, inl, inr, Bool, true, false, List, [], ◌∷◌, ◌++◌, length, get_or, Any, ◌==◌, refl, sym, ap, ◌∙◌, arith, length-append}
 use Rattle.std.proofs.lemmas.List.{get_or_default, length-map}
 use Rattle.std.proofs.lemmas.List.Elements.{All-push}
 use Rattle.std.proofs.lemmas.List.Quantifiers.{all_pairs_push}
@@ -16,7 +16,7 @@ use Rattle.ctl_text.specs.Value.{SpecParts, number_in, role_names, kind_names, p
 use Rattle.ctl_text.specs.Sound.{AreLocals, AreArcs, IsSoundState}
 use Rattle.ctl_text.specs.Item.{end_line, process_line}
 use Rattle.ctl_text.specs.State.{State, Group, in_locals, in_arcs, in_kind, among_processes, before_head, among_roles, among_kinds, among_edges, after_done, MayStand, after}
-use Rattle.ctl_text.proofs.Named.{contained, named_at, number_within}
+use Rattle.ctl_text.proofs.Named.{contained, named_at}
 
 not_over : (n m : ℕ) → (m ≤ n → ⊥) → n < m
 not_over n m not_le = elim (cases_lt n m) [ inl lt ↦ lt | inr le ↦ absurd (not_le le) ]

@@ -1,5 +1,5 @@
 -- What is known of an option, told otherwise.
-use Rattle.std.proofs.Common.{ℕ, ◌≡◌, true, false, Option, Some, None, IfSome, IfNone}
+use Rattle.std.proofs.Common.{◌≡◌, true, false, Option, Some, None, IfSome, IfNone}
 
 pub some_as : {X : Type 0} (o : Option X) (P Q : X → Type 0) → ((x : X) → P x → Q x) → IfSome o P → IfSome o Q
 some_as (Some x) P Q told h = told x h

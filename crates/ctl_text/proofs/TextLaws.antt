@@ -1,5 +1,5 @@
 -- A text stands for one value at most, and is never both read and refused.
-use Rattle.std.proofs.Common.{arith, ℕ, ◌≡◌, ◌+◌, ◌⊎◌, inl, inr, List, [], ◌∷◌, sym, ap, ◌∙◌, subst}
+use Rattle.std.proofs.Common.{ℕ, ◌≡◌, ◌+◌, ◌⊎◌, inl, inr, List, [], ◌∷◌, sym, ap, ◌∙◌, subst}
 use Rattle.ctl_text.specs.declared.cause.TextCause.{TextCause}
 use Rattle.ctl_text.specs.Lines.{words_of, ArePassed}
 use Rattle.ctl_text.specs.Item.{Said}
@@ -16,7 +16,7 @@ leaves_once : (s : State) (words : List (List ℕ)) (t u : State) → LeavesOne 
 leaves_once s words t u (inl p) (inl q) = p.1 ∙ sym q.1
 leaves_once s words t u (inl p) (inr q) = absurd (q.0 p.0)
 leaves_once s words t u (inr p) (inl q) = absurd (p.0 q.0)
-leaves_once s words t u (inr (p, (x, xs))) (inr (q, (y, ys))) = xs.next ∙ ap (after s) (says_once words x y xs.may.0 ys.may.0) ∙ sym ys.next
+leaves_once s words t u (inr (p, (x, xs))) (inr (q, (y, ys))) = xs.next ∙ ap (after s) (says_once s words x y xs.may ys.may) ∙ sym ys.next
 
 pub takes_once : (s : State) (line : List ℕ) (t u : State) → Takes s line t → Takes s line u → t ≡ u
 takes_once s line t u a b = leaves_once s (words_of line) t u a.leaves b.leaves

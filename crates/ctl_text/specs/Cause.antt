@@ -1,5 +1,5 @@
 -- Why a line is refused: each cause with the rule that the line breaks.
-use Rattle.std.specs.Prelude.{ℕ, ◌≡◌, ◌≢◌, ◌<◌, ◌≤◌, ◌⊎◌, List, [], ◌∷◌, codes, length, Any, Contains}
+use Rattle.std.specs.Prelude.{ℕ, ◌≡◌, ◌≢◌, ◌<◌, ◌≤◌, ◌⊎◌, List, [], ◌∷◌, codes, length, Contains}
 use Rattle.pair_structure.specs.declared.side.LocalArc.{LocalArc}
 use Rattle.pair_structure.specs.Role.{RoleParts, HasArc, HasArcFrom}
 use Rattle.ctl_form.specs.declared.pair_spec.PairSpec.{PairSpec}
@@ -8,10 +8,10 @@ use Rattle.ctl_text.specs.declared.network.Process.{Process}
 use Rattle.ctl_text.specs.declared.network.Edge.{Edge}
 use Rattle.ctl_text.specs.declared.cause.TextCause.{TextCause}
 use Rattle.ctl_text.specs.declared.cause.TextCause.TheVariants.{NotText, BadHead, Long, BadLine, UnknownName, Twice, SelfArc, NoArc, TooMany, ClosureOver, SelfEdge, EdgeTwice, DegreeOver, RoleMismatch, NotAPair, NotRising, Disagree}
-use Rattle.ctl_text.specs.Required.{Spelling, AreKnown, IsLong, IsClosureOver}
+use Rattle.ctl_text.specs.Required.{Spells, AreKnown, IsLong, IsClosureOver}
 use Rattle.ctl_text.specs.Lines.{words_of, IsText, ArePassed}
 use Rattle.ctl_text.specs.Item.{Said, head_line, role_line, local_line, start_line, arc_line, kind_line, require_line, end_line, process_line, edge_line, words_for, Says}
-use Rattle.ctl_text.specs.Value.{SpecParts, role_names, kind_names, process_names, number_in, degree_of, AreJoined, kind_at, process_at}
+use Rattle.ctl_text.specs.Value.{role_names, kind_names, process_names, number_in, degree_of, AreJoined, kind_at, process_at}
 use Rattle.ctl_text.specs.State.{Group, before_head, in_locals, in_arcs, in_kind, State, MayStand, after}
 
 -- the order of the causes
@@ -75,8 +75,8 @@ abbrev pub KindStands : List RoleParts → List PairSpec → List ℕ → List �
 KindStands roles kinds name a b cause = UseStands (role_names roles) a cause ⊎ (UseStands (role_names roles) b cause ⊎ NameStands (kind_names kinds) 16 name cause)
 
 -- against a clause of an open kind
-abbrev pub ClauseStands : List RoleParts → PairSpec → Spelling → TextCause → Type 0
-ClauseStands roles k clause cause = (cause ≡ UnknownName) × (AreKnown (role_at roles k.role_a).locals (role_at roles k.role_b).locals clause → ⊥)
+abbrev pub ClauseStands : List RoleParts → PairSpec → List (List ℕ) → TextCause → Type 0
+ClauseStands roles k words cause = (cause ≡ UnknownName) × (AreKnown (role_at roles k.role_a).locals (role_at roles k.role_b).locals words → ⊥)
 
 -- against the end of an open kind
 abbrev pub KindEndStands : List RoleParts → PairSpec → TextCause → Type 0
@@ -129,9 +129,9 @@ abbrev pub ArcBlocks : Group → List ℕ → List ℕ → TextCause → Type 0
 ArcBlocks (in_arcs r) p q cause = ArcStands r.locals r.arcs p q cause
 ArcBlocks group p q cause = ⊥
 
-abbrev pub ClauseBlocks : List RoleParts → Group → Spelling → TextCause → Type 0
-ClauseBlocks roles (in_kind k) clause cause = ClauseStands roles k clause cause
-ClauseBlocks roles group clause cause = ⊥
+abbrev pub ClauseBlocks : List RoleParts → Group → List (List ℕ) → TextCause → Type 0
+ClauseBlocks roles (in_kind k) words cause = ClauseStands roles k words cause
+ClauseBlocks roles group words cause = ⊥
 
 abbrev pub EndBlocks : List RoleParts → Group → TextCause → Type 0
 EndBlocks roles (in_arcs r) cause = RoleEndStands r.locals r.arcs cause
@@ -145,15 +145,20 @@ Blocks s (local_line name) cause = LocalBlocks s.group name cause
 Blocks s (start_line name) cause = StartBlocks s.group name cause
 Blocks s (arc_line p q free) cause = ArcBlocks s.group p q cause
 Blocks s (kind_line name a b) cause = KindStands s.parts.roles s.parts.kinds name a b cause
-Blocks s (require_line words clause) cause = ClauseBlocks s.parts.roles s.group clause cause
+Blocks s (require_line words form) cause = ClauseBlocks s.parts.roles s.group words cause
 Blocks s end_line cause = EndBlocks s.parts.roles s.group cause
 Blocks s (process_line name r) cause = ProcessStands s.parts.roles s.parts.processes name r cause
 Blocks s (edge_line p q kind) cause = EdgeStands s.parts.processes s.parts.kinds s.parts.edges p q kind cause
 Blocks s item cause = ⊥
 
+-- a clause is spelled over the local states of the open kind's roles
+abbrev pub IsClauseSpelled : Said → List RoleParts → Group → Type 0
+IsClauseSpelled (require_line words form) roles (in_kind k) = Spells (role_at roles k.role_a).locals (role_at roles k.role_b).locals words form
+IsClauseSpelled item roles group = Unit {0}
+
 -- the words say something that may stand there
-abbrev pub MaySay : Group → List (List ℕ) → Said → Type 0
-MaySay group words item = Says words item × MayStand group item
+abbrev pub MaySay : State → List (List ℕ) → Said → Type 0
+MaySay s words item = Says words item × MayStand s.group item × IsClauseSpelled item s.parts.roles s.group
 
 -- a clause is required that is too long
 abbrev pub IsLongLine : List (List ℕ) → Type 0
@@ -165,8 +170,8 @@ abbrev pub WordsStand : State → List (List ℕ) → TextCause → Type 0
 WordsStand s words cause =
     ((cause ≡ BadHead) × (s.group ≡ before_head) × (words ≢ words_for head_line))
     ⊎ (((cause ≡ Long) × IsLongLine words)
-    ⊎ (((cause ≡ BadLine) × ((item : Said) → MaySay s.group words item → ⊥))
-    ⊎ ((item : Said) × MaySay s.group words item × Blocks s item cause)))
+    ⊎ (((cause ≡ BadLine) × ((item : Said) → MaySay s words item → ⊥))
+    ⊎ ((item : Said) × MaySay s words item × Blocks s item cause)))
 
 -- what stands against a line, below this state
 abbrev pub Stands : State → List ℕ → TextCause → Type 0
@@ -174,7 +179,7 @@ Stands s line cause = ((cause ≡ NotText) × (IsText line → ⊥)) ⊎ ((ArePa
 
 -- the words say what leaves this state
 pub record Leaves (s : State) (words : List (List ℕ)) (item : Said) (t : State) : Type 0 where
-  pub may : MaySay s.group words item
+  pub may : MaySay s words item
   pub next : t ≡ after s item
 
 -- nothing stands against the line, and it leaves this state

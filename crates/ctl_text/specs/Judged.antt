@@ -5,10 +5,10 @@ use Rattle.ctl_text.specs.declared.cause.TextCause.{TextCause}
 use Rattle.ctl_text.specs.declared.cause.TextCause.TheVariants.{BadHead, Long, BadLine, UnknownName}
 use Rattle.ctl_text.specs.declared.cause.LineFault.{LineFault}
 use Rattle.ctl_text.specs.declared.cause.LineFault.TheVariants.{Bad, Memory}
-use Rattle.ctl_text.specs.Required.{Spelling, Spells, AreKnown, form_in, IsLong}
+use Rattle.ctl_text.specs.Required.{Spells, AreKnown, IsLong}
 use Rattle.ctl_text.specs.Reads.{IsUnspelled}
-use Rattle.ctl_text.specs.Item.{Said, require_line}
-use Rattle.ctl_text.specs.State.{State, Group, before_head, with_clause, with_form}
+use Rattle.ctl_text.specs.Item.{Said, require_line, Says}
+use Rattle.ctl_text.specs.State.{State, Group, before_head, MayStand}
 use Rattle.ctl_text.specs.Cause.{IsLowest, IsFree, WordsStand, MaySay, Leaves}
 
 -- nothing stands against the words, and they leave this state
@@ -29,22 +29,22 @@ misplaced group = BadLine
 
 -- the words require this clause, and nothing stands against them
 pub record IsClauseOf (s : State) (words : List (List ℕ)) (form : Form) : Type 0 where
-  pub clause : Spelling
-  pub may : MaySay s.group (codes "require" ∷ words) (require_line words clause)
+  pub may : MaySay s (codes "require" ∷ words) (require_line words form)
   pub free : IsFree (WordsStand s (codes "require" ∷ words))
-  pub grown : with_form s.group form ≡ with_clause s.parts.roles s.group clause
 
 -- what stands against words that are to spell a formula over these local states
 abbrev pub SpellingStands : List (List ℕ) → List (List ℕ) → List (List ℕ) → TextCause → Type 0
 SpellingStands a b words cause =
     ((cause ≡ Long) × IsLong words)
-    ⊎ (((cause ≡ BadLine) × IsUnspelled words)
-    ⊎ ((clause : Spelling) × Spells words clause × ((cause ≡ UnknownName) × (AreKnown a b clause → ⊥))))
+    ⊎ (((cause ≡ BadLine) × IsUnspelled a b words)
+    ⊎ ((form : Form) × Spells a b words form × ((cause ≡ UnknownName) × (AreKnown a b words → ⊥))))
 
 -- the words spell this formula over these local states, and nothing stands against them
 pub record IsSpelledOver (a b words : List (List ℕ)) (form : Form) : Type 0 where
-  pub clause : Spelling
-  pub spells : Spells words clause
-  pub known : AreKnown a b clause
+  pub spells : Spells a b words form
+  pub known : AreKnown a b words
   pub short : IsLong words → ⊥
-  pub form_is : form ≡ form_in a b clause
+
+-- the words say something, and the group is open where it stands
+abbrev pub CanSay : Group → List (List ℕ) → Said → Type 0
+CanSay group words item = Says words item × MayStand group item

@@ -3,24 +3,15 @@ use Rattle.std.specs.Prelude.{ℕ, ◌≡◌, List, [], ◌∷◌, codes}
 use Rattle.pair_structure.specs.Role.{RoleParts}
 use Rattle.ctl_form.specs.Form.{Form, truth, falsity}
 
--- a formula as it is spelled, with names for its local states
-pub data Spelling : Type 0 where
-  yes_word : Spelling
-  no_word : Spelling
+-- the words spell the formula, where these are the names of the two sides' local states; unknown names count as the local state 0
+abbrev pub Spells : List (List ℕ) → List (List ℕ) → List (List ℕ) → Form → Type 0
+Spells a b words truth = words ≡ codes "true" ∷ []
+Spells a b words falsity = words ≡ codes "false" ∷ []
+Spells a b words form = ⊥
 
--- the words spell it
-abbrev pub Spells : List (List ℕ) → Spelling → Type 0
-Spells words yes_word = words ≡ codes "true" ∷ []
-Spells words no_word = words ≡ codes "false" ∷ []
-
--- each name in it is one of these local states of its side
-abbrev pub AreKnown : List (List ℕ) → List (List ℕ) → Spelling → Type 0
-AreKnown a b clause = Unit {0}
-
--- the formula that is spelled, where these are the names of the sides' local states
-abbrev pub form_in : List (List ℕ) → List (List ℕ) → Spelling → Form
-form_in a b yes_word = truth
-form_in a b no_word = falsity
+-- each name in the words is one of these local states of its side
+abbrev pub AreKnown : List (List ℕ) → List (List ℕ) → List (List ℕ) → Type 0
+AreKnown a b words = Unit {0}
 
 -- the words have too many tokens, or too many open parentheses
 abbrev pub IsLong : List (List ℕ) → Type 0

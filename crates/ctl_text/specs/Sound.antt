@@ -1,9 +1,7 @@
 -- What stands above a line and an open group keep, as long as each line is taken.
-use Rattle.std.specs.Prelude.{ℕ, ◌≡◌, ◌≢◌, ◌<◌, ◌≤◌, ◌+◌, ◌^◌, List, length, All, AllPairs}
+use Rattle.std.specs.Prelude.{ℕ, ◌≡◌, ◌≢◌, ◌<◌, ◌≤◌, ◌+◌, List, length, All, AllPairs}
 use Rattle.pair_structure.specs.declared.side.LocalArc.{LocalArc}
 use Rattle.pair_structure.specs.Role.{JoinsTwo}
-use Rattle.ctl_form.specs.declared.pair_spec.PairSpec.{PairSpec}
-use Rattle.ctl_text.specs.Value.{SpecParts}
 use Rattle.ctl_text.specs.State.{State, Group, in_locals, in_arcs, in_kind}
 
 pub record AreLocals (names : List (List ℕ)) : Type 0 where

@@ -4,8 +4,6 @@ use Rattle.pair_structure.specs.declared.side.LocalArc.{LocalArc}
 use Rattle.pair_structure.specs.Role.{RoleParts}
 use Rattle.ctl_form.specs.declared.pair_spec.PairSpec.{PairSpec}
 use Rattle.ctl_form.specs.Form.{Form}
-use Rattle.ctl_form.specs.Kind.{role_at}
-use Rattle.ctl_text.specs.Required.{Spelling, form_in}
 use Rattle.ctl_text.specs.Item.{Said, head_line, role_line, local_line, start_line, arc_line, kind_line, require_line, end_line, process_line, edge_line, done_line}
 use Rattle.ctl_text.specs.Value.{SpecParts, role_names, kind_names, process_names, number_in}
 
@@ -45,7 +43,7 @@ MayStand among_kinds (kind_line name a b) = Unit {0}
 MayStand among_kinds (process_line name r) = Unit {0}
 MayStand among_kinds (edge_line p q kind) = Unit {0}
 MayStand among_kinds done_line = Unit {0}
-MayStand (in_kind k) (require_line words clause) = Unit {0}
+MayStand (in_kind k) (require_line words form) = Unit {0}
 MayStand (in_kind k) end_line = Unit {0}
 MayStand among_processes (process_line name r) = Unit {0}
 MayStand among_processes (edge_line p q kind) = Unit {0}
@@ -69,18 +67,10 @@ abbrev pub with_arc : Group → List ℕ → List ℕ → Bool → Group
 with_arc (in_arcs r) p q free = in_arcs (record { name = r.name; locals = r.locals; start = r.start; arcs = r.arcs ++ arc_in r.locals p q free ∷ [] })
 with_arc group p q free = group
 
--- the formula that is spelled over the roles of the kind
-abbrev pub form_for : List RoleParts → PairSpec → Spelling → Form
-form_for roles k clause = form_in (role_at roles k.role_a).locals (role_at roles k.role_b).locals clause
-
 -- the open kind with one more clause
 abbrev pub with_form : Group → Form → Group
 with_form (in_kind k) form = in_kind (record { name = k.name; role_a = k.role_a; role_b = k.role_b; clauses = k.clauses ++ form ∷ [] })
 with_form group form = group
-
-abbrev pub with_clause : List RoleParts → Group → Spelling → Group
-with_clause roles (in_kind k) clause = with_form (in_kind k) (form_for roles k clause)
-with_clause roles group clause = group
 
 -- an open role or kind is declared where it ends
 abbrev pub with_ended : SpecParts → Group → SpecParts
@@ -115,7 +105,7 @@ after s (local_line n) = record { parts = s.parts; group = with_local s.group n 
 after s (start_line n) = record { parts = s.parts; group = with_start s.group n }
 after s (arc_line p q free) = record { parts = s.parts; group = with_arc s.group p q free }
 after s (kind_line name a b) = record { parts = s.parts; group = opened_kind s.parts.roles name a b }
-after s (require_line words clause) = record { parts = s.parts; group = with_clause s.parts.roles s.group clause }
+after s (require_line words form) = record { parts = s.parts; group = with_form s.group form }
 after s end_line = record { parts = with_ended s.parts s.group; group = group_after_end s.group }
 after s (process_line name r) = record { parts = with_process s.parts name r; group = among_processes }
 after s (edge_line p q kind) = record { parts = with_edge s.parts p q kind; group = among_edges }

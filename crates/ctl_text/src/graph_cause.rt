@@ -3,9 +3,7 @@ ghost use Rattle.ctl_text.specs.Value.{role_names, kind_names, process_names, nu
 ghost use Rattle.ctl_text.specs.Cause.{IsLowest, IsFree, NameStands, KindStands, ProcessStands, JoinStands, EdgeStands, IsCrowded, IsFirstCrowded, AreOfKind};
 
 use crate::edges::Edges;
-use crate::names::{
-    has_kind, has_process, has_role, kind_number, process_number,
-};
+use crate::names::{has_kind, has_process, has_role, kind_number, process_number};
 use crate::processes::Processes;
 use crate::{Process, TextCause};
 use ctl_form::PairSpec;

@@ -120,7 +120,11 @@ fn four<'a>(word: &[u8], a: &'a [u8], b: &'a [u8], c: &'a [u8]) -> Option<Item<'
         });
     }
     if word == b"kind".as_slice() {
-        return Some(Item::Kind { name: a, a: b, b: c });
+        return Some(Item::Kind {
+            name: a,
+            a: b,
+            b: c,
+        });
     }
     if word == b"edge".as_slice() {
         return Some(Item::Edge { a, b, kind: c });

@@ -8,6 +8,7 @@ mod clause;
 mod edges;
 mod graph_cause;
 mod item;
+mod laws;
 mod line;
 mod names;
 mod network;
@@ -17,7 +18,10 @@ mod read;
 mod required;
 mod role_cause;
 mod take;
+#[cfg(test)]
+mod tests;
 
 pub use cause::{TextCause, TextFault};
+pub use laws::never_both;
 pub use network::{Edge, Process};
 pub use read::{Spec, read_spec};

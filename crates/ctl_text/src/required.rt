@@ -1,7 +1,7 @@
 ghost use Rattle.std.specs.Prelude.{◌≡◌, ◌↔◌, ◌∷◌, [], ℕ, List, IsTrue, IfOk, IfSome, IfNone, map};
 ghost use Rattle.pair_structure.specs.Role.{RoleParts};
 ghost use Rattle.ctl_form.specs.Form.{form_of};
-ghost use Rattle.ctl_text.specs.Required.{Spelling, Spells, AreKnown, form_in, IsLong, IsClosureOver};
+ghost use Rattle.ctl_text.specs.Required.{IsLong};
 ghost use Rattle.ctl_text.specs.Reads.{IsReadAs, IsUnspelled};
 
 use ctl_form::Formula;
@@ -30,7 +30,7 @@ pub(crate) fn required_of(
     words: &[&[u8]],
 ) -> Result<Option<Required>, AllocError>
     ensures some { IfOk result (λ found. IfSome found (IsReadAs _a.now _b.now (map (λ w. w.now) words.now))) }
-    ensures none { IfOk result (λ found. IfNone found (IsUnspelled (map (λ w. w.now) words.now))) }
+    ensures none { IfOk result (λ found. IfNone found (IsUnspelled _a.now _b.now (map (λ w. w.now) words.now))) }
 {
     match words {
         [word] => Ok(constant(word)),
@@ -40,7 +40,7 @@ pub(crate) fn required_of(
 
 fn constant(word: &[u8]) -> Option<Required>
     ensures some { (a b : List (List ℕ)) → IfSome result (IsReadAs a b (word.now ∷ [])) }
-    ensures none { IfNone result (IsUnspelled (word.now ∷ [])) }
+    ensures none { (a b : List (List ℕ)) → IfNone result (IsUnspelled a b (word.now ∷ [])) }
 {
     if word == b"true".as_slice() {
         return Some(Required {

@@ -1,8 +1,8 @@
 ghost use Rattle.std.specs.Prelude.{◌≡◌, ◌↔◌, ◌⊎◌, ◌∷◌, ◌≤◌, IsTrue, IfOk, IfErr, IfSome, IfNone, map, codes};
 ghost use Rattle.ctl_text.specs.Lines.{IsRequire};
 ghost use Rattle.ctl_text.specs.Item.{Said};
-ghost use Rattle.ctl_text.specs.Judged.{IsTakenAs, IsBadBy, misplaced};
-ghost use Rattle.ctl_text.specs.Cause.{IsLowest, IsFree, Blocks, WordsStand, Stands, Takes, MaySay};
+ghost use Rattle.ctl_text.specs.Judged.{IsTakenAs, IsBadBy, CanSay, misplaced};
+ghost use Rattle.ctl_text.specs.Cause.{IsLowest, IsFree, Blocks, WordsStand, Stands, Takes};
 ghost use Rattle.ctl_text.specs.Sound.{IsSoundState};
 ghost use Rattle.ctl_text.specs.View.{group_of, state_of, said};
 
@@ -92,8 +92,8 @@ fn take_item(alloc: Global, reader: Reader, words: &[&[u8]]) -> Result<Reader, L
 /// What the words say, if it may stand there.
 fn placed_item<'a>(place: &Place, words: &[&'a [u8]]) -> Option<Item<'a>>
     requires { IsRequire (map (λ w. w.now) words.now) → ⊥ }
-    ensures some { IfSome result (λ item. MaySay (group_of place.now) (map (λ w. w.now) words.now) (said item)) }
-    ensures none { IfNone result ((item : Said) → MaySay (group_of place.now) (map (λ w. w.now) words.now) item → ⊥) }
+    ensures some { IfSome result (λ item. CanSay (group_of place.now) (map (λ w. w.now) words.now) (said item)) }
+    ensures none { IfNone result ((item : Said) → CanSay (group_of place.now) (map (λ w. w.now) words.now) item → ⊥) }
 {
     let Some(item) = said_by(words) else {
         return None;

@@ -1,5 +1,5 @@
 use Rattle.std.proofs.Common.{sym, refl}
-use Rattle.ctl_text.proofs.ItemLaws.{item_takes, unread_says}
+use Rattle.ctl_text.proofs.ItemLaws.{item_takes}
 use Rattle.ctl_text.proofs.item.said_by.Goals as goal
 
 pub returns-then-is_spelled-clause-some : goal.returns-then-is_spelled-clause-some

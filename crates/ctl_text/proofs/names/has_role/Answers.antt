@@ -1,4 +1,4 @@
-use Rattle.std.proofs.Common.{refl, sym}
+use Rattle.std.proofs.Common.{sym}
 use Rattle.ctl_text.proofs.Named.{found-Contains}
 use Rattle.ctl_text.proofs.names.has_role.Goals as goal
 
