@@ -1,6 +1,7 @@
 pub mod CauseRows
 pub mod Clauses
 pub mod Crowded
+pub mod EdgeTables
 pub mod ItemLaws
 pub mod Judged
 pub mod Kept

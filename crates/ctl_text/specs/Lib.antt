@@ -1,5 +1,6 @@
 pub mod Answers
 pub mod Cause
+pub mod EdgeTable
 pub mod Item
 pub mod ItemReading
 pub mod Judged

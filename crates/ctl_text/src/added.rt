@@ -281,7 +281,13 @@ fn process_added(
     })
 }
 
-fn edge_added(reader: Reader, a: &[u8], b: &[u8], kind: &[u8]) -> Result<Reader, AllocError>
+fn edge_added(
+    alloc: Global,
+    reader: Reader,
+    a: &[u8],
+    b: &[u8],
+    kind: &[u8],
+) -> Result<Reader, AllocError>
     requires few_kinds { length reader.kinds.items ≤ 16 }
     requires few_processes { length reader.processes ≤ 1024 }
     ensures { IfOk result (λ r. state_of r ≡ after (state_of reader) (edge_line a.now b.now kind.now)) }
@@ -290,13 +296,13 @@ fn edge_added(reader: Reader, a: &[u8], b: &[u8], kind: &[u8]) -> Result<Reader,
         roles,
         kinds,
         processes,
-        mut edges,
+        edges,
         place: _before,
     } = reader;
     let a = process_number(&processes, a) as u32;
     let b = process_number(&processes, b) as u32;
     let kind = kind_number(&kinds, kind) as u8;
-    edges.push(Edge { a, b, kind })?;
+    let edges = edges.with(alloc, Edge { a, b, kind })?;
     Ok(Reader {
         roles,
         kinds,
@@ -344,7 +350,7 @@ pub(crate) fn added(alloc: Global, reader: Reader, item: Item<'_>) -> Result<Rea
             Ok(reader)
         }
         Item::Edge { a, b, kind } => {
-            let reader = edge_added(reader, a, b, kind)?;
+            let reader = edge_added(alloc, reader, a, b, kind)?;
             Ok(reader)
         }
         Item::Done => Ok(placed(reader, Place::AfterDone)),

@@ -1,24 +1,28 @@
-ghost use Rattle.std.specs.Prelude.{◌≡◌, ◌↔◌, ◌⊎◌, ◌<◌, ◌≤◌, ◌^◌, ◌++◌, ◌∷◌, [], IsTrue, OnOk, Any, length, count_by};
-ghost use Rattle.ctl_text.specs.Value.{degree_of, AreJoined, is_at};
-ghost use Rattle.ctl_text.specs.declared.network.Edge.{Edge};
+ghost use Rattle.std.specs.Prelude.{◌≡◌, ◌↔◌, ◌≤◌, ◌++◌, ◌∷◌, [], IsTrue, IfOk, Contains};
+ghost use Rattle.ctl_text.specs.Value.{degree_of, AreJoined};
 
 use crate::Edge;
+use crate::beside::Beside;
 use std::alloc::{AllocError, Global};
 use std::marker::Model;
 
-/// The edges that are declared so far.
+/// The edges that are declared so far, to be found by their processes.
 #[derive(Drop)]
 pub(crate) struct Edges {
     list: Vec<Edge>,
+    beside: Beside,
 }
 
 impl Model for Edges {
     ghost use Rattle.std.specs.Prelude.{List};
     ghost use Rattle.ctl_text.specs.declared.network.Edge.{Edge};
+    ghost use Rattle.ctl_text.specs.EdgeTable.{IsBeside};
 
     ghost Value = { List Edge };
 
     ghost view = { λ e. e.list.items };
+
+    ghost invariant = { λ e. IsBeside e.list.items e.beside };
 }
 
 impl Edges {
@@ -27,14 +31,25 @@ impl Edges {
     {
         Edges {
             list: Vec::new(alloc),
+            beside: Beside::new(alloc),
         }
     }
 
-    pub(crate) fn push(&mut self, edge: Edge) -> Result<(), AllocError>
-        ensures { OnOk result (self.new ≡ self.old ++ edge ∷ []) }
+    /// The edges with one more.
+    pub(crate) fn with(self, alloc: Global, edge: Edge) -> Result<Edges, AllocError>
+        ensures { IfOk result (λ made. made ≡ self ++ edge ∷ []) }
     {
-        self.list.push(edge)?;
-        Ok(())
+        let Edges {
+            mut list,
+            mut beside,
+        } = self;
+        list.push(edge)?;
+        beside.push(alloc, edge.a, edge.b)?;
+        if edge.a == edge.b {
+            return Ok(Edges { list, beside });
+        }
+        beside.push(alloc, edge.b, edge.a)?;
+        Ok(Edges { list, beside })
     }
 
     pub(crate) fn into_vec(self) -> Vec<Edge>
@@ -43,44 +58,23 @@ impl Edges {
         self.list
     }
 
-    /// Whether an edge is between the two processes.
+    /// Whether an edge is between the two processes. Linear in the edges of one.
     pub(crate) fn are_joined(&self, p: u32, q: u32) -> bool
         ensures { IsTrue result ↔ AreJoined self.now p q }
     {
-        some_joins(&self.list, p, q)
+        has(self.beside.list(p), q)
     }
 
     /// Whether the process has 32 edges.
     pub(crate) fn is_full(&self, process: u32) -> bool
         ensures { IsTrue result ↔ (32 ≤ degree_of self.now process) }
     {
-        count_at(&self.list, process) >= 32
+        self.beside.list(process).len() >= 32
     }
 }
 
-fn some_joins(edges: &[Edge], p: u32, q: u32) -> bool
-    ensures { IsTrue result ↔ AreJoined edges.now p q }
+fn has(list: &[u32], process: u32) -> bool
+    ensures { IsTrue result ↔ Contains list.now process }
 {
-    edges.iter().any(|edge| joins(edge, p, q))
-}
-
-fn joins(edge: &Edge, p: u32, q: u32) -> bool
-    ensures { IsTrue result ↔ (((edge.now.a ≡ p) × (edge.now.b ≡ q)) ⊎ ((edge.now.a ≡ q) × (edge.now.b ≡ p))) }
-{
-    if edge.a == p && edge.b == q {
-        return true;
-    }
-    edge.a == q && edge.b == p
-}
-
-fn count_at(edges: &[Edge], process: u32) -> usize
-    ensures { result ≡ degree_of edges.now process }
-{
-    edges.iter().filter(|edge| is_at(edge, process)).count()
-}
-
-fn is_at(edge: &Edge, process: u32) -> bool
-    ensures { result ≡ is_at process edge.now }
-{
-    edge.a == process || edge.b == process
+    list.contains(&process)
 }

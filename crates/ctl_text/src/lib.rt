@@ -2,6 +2,7 @@
 #![tactic(auto)]
 
 mod added;
+mod beside;
 mod blocked;
 mod cause;
 mod clause;
