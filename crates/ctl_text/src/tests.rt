@@ -55,7 +55,8 @@ fn lamps_are_read(rt: HostRuntime) -> Result<(), Fail> {
         assert_eq!(rt; spec.roles.len(), 1);
         assert_eq!(rt; spec.kinds.len(), 1);
         assert_eq!(rt; spec.processes.len(), 2);
-        assert_eq!(rt; spec.edges[0].b, 1);
+        let edge = spec.edges.get(0).ok_or("edge")?;
+        assert_eq!(rt; edge.b, 1);
     }
     Ok(())
 }
