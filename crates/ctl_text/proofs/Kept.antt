@@ -1,5 +1,5 @@
 -- What a line that is taken keeps.
-use Rattle.std.proofs.Common.{ℕ, zero, suc, ◌≡◌, ◌≢◌, ◌<◌, ◌≤◌, ◌+◌, ◌⊎◌, inl, inr, Bool, true, false, List, [], ◌∷◌, ◌++◌, length, get_or, Any, ◌==◌, refl, sym, ap, ◌∙◌, arith, length-append}
+use Rattle.std.proofs.Common.{ℕ, zero, suc, ◌≡◌, ◌≢◌, ◌<◌, ◌≤◌, ◌+◌, ◌⊎◌, inl, inr, Bool, true, false, List, [], ◌∷◌, ◌++◌, length, get_or, Any, Contains, ◌==◌, refl, sym, ap, ◌∙◌, arith, length-append}
 use Rattle.std.proofs.lemmas.List.{get_or_default, length-map}
 use Rattle.std.proofs.lemmas.List.Elements.{All-push}
 use Rattle.std.proofs.lemmas.List.Quantifiers.{all_pairs_push}
@@ -15,8 +15,8 @@ use Rattle.ctl_text.specs.Cause.{IsFree, NameStands, ArcStands, KindStands, Proc
 use Rattle.ctl_text.specs.Value.{SpecParts, number_in, role_names, kind_names, process_names}
 use Rattle.ctl_text.specs.Sound.{AreLocals, AreArcs, IsSoundState}
 use Rattle.ctl_text.specs.Item.{end_line, process_line}
-use Rattle.ctl_text.specs.State.{State, Group, in_locals, in_arcs, in_kind, among_processes, before_head, among_roles, among_kinds, among_edges, after_done, MayStand, after}
-use Rattle.ctl_text.proofs.Named.{contained, named_at}
+use Rattle.ctl_text.specs.State.{State, Group, in_locals, in_arcs, in_kind, among_processes, before_head, among_roles, among_kinds, among_edges, after_done, MayStand, opened_kind, after}
+use Rattle.ctl_text.proofs.Named.{contained, named_at, number_within}
 
 not_over : (n m : ℕ) → (m ≤ n → ⊥) → n < m
 not_over n m not_le = elim (cases_lt n m) [ inl lt ↦ lt | inr le ↦ absurd (not_le le) ]
@@ -98,15 +98,20 @@ role_opens s name role_name names sound free none = record {
   few_kinds = (let h = sound.few_kinds in omega arith);
   few_processes = sound.few_processes;
   group = no_locals names none;
+  kind_roles = tt;
 }
 
+role_within : (roles : List RoleParts) (name : List ℕ) → Contains (role_names roles) name → number_in (role_names roles) name < length roles
+role_within roles name there = let lt = number_within (role_names roles) name there in omega (arith, length-map roles (λ (r : RoleParts). r.name))
+
 -- a kind is opened
-pub kind_opens : (s : State) (k : PairSpec) (name a b : List ℕ) → IsSoundState s → IsFree (KindStands s.parts.roles s.parts.kinds name a b) → IsSoundState (record { parts = s.parts; group = in_kind k })
-kind_opens s k name a b sound free = record {
+pub kind_opens : (s : State) (name a b : List ℕ) → IsSoundState s → IsFree (KindStands s.parts.roles s.parts.kinds name a b) → IsSoundState (record { parts = s.parts; group = opened_kind s.parts.roles name a b })
+kind_opens s name a b sound free = record {
   few_roles = (let h = sound.few_roles in omega arith);
   few_kinds = kind_room s.parts.roles s.parts.kinds name a b free;
   few_processes = sound.few_processes;
   group = tt;
+  kind_roles = (role_within s.parts.roles a (contained (role_names s.parts.roles) a (λ h. free.free UnknownName (inl (refl, h)))), role_within s.parts.roles b (contained (role_names s.parts.roles) b (λ h. free.free UnknownName (inr (inl (refl, h))))));
 }
 
 -- the open role or kind is declared
@@ -116,12 +121,14 @@ end_sound v (in_arcs r) sound may = record {
   few_kinds = sound.few_kinds;
   few_processes = sound.few_processes;
   group = tt;
+  kind_roles = tt;
 }
 end_sound v (in_kind k) sound may = record {
   few_roles = sound.few_roles;
   few_kinds = (let h = sound.few_kinds in omega (arith, length-append v.kinds (k ∷ [])));
   few_processes = sound.few_processes;
   group = tt;
+  kind_roles = tt;
 }
 end_sound v before_head sound may = absurd may
 end_sound v among_roles sound may = absurd may
@@ -138,4 +145,5 @@ process_sound s name r sound free = record {
   few_kinds = (let h = sound.few_kinds in omega arith);
   few_processes = (let h = process_room s.parts.roles s.parts.processes name r free in omega (arith, length-append s.parts.processes (record { name = name; role = number_in (role_names s.parts.roles) r } ∷ [])));
   group = tt;
+  kind_roles = tt;
 }

@@ -2,6 +2,7 @@ pub mod Canonical
 pub mod CanonicalSigns
 pub mod CauseRows
 pub mod Clauses
+pub mod ClosureCount
 pub mod Crowded
 pub mod EdgeTables
 pub mod ItemLaws

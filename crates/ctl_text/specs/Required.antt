@@ -3,6 +3,8 @@ use Rattle.std.specs.Prelude.{ℕ, List}
 use Rattle.std.specs.List.{flat_map}
 use Rattle.pair_structure.specs.Role.{RoleParts}
 use Rattle.ctl_form.specs.Form.{Form}
+use Rattle.ctl_form.specs.Kind.{whole_forms}
+use Rattle.ctl_form.specs.Numbered.{IsTooLarge}
 use Rattle.ctl_text.specs.Sign.{Names}
 use Rattle.ctl_text.specs.Token.{tokens_of}
 use Rattle.ctl_text.specs.Tree.{Spells, AreKnown, signs_of}
@@ -23,6 +25,6 @@ AreKnownOver a b tokens = AreKnown (signs_of a b tokens)
 abbrev pub IsUnspelled : Names → Names → List (List ℕ) → Type 0
 IsUnspelled a b tokens = (form : Form) → SpellsOver a b tokens form → ⊥
 
--- the closure of a kind over these roles with these clauses has too many members
+-- the closure of a kind over these roles with these clauses has more than 512 members
 abbrev pub IsClosureOver : RoleParts → RoleParts → List Form → Type 0
-IsClosureOver a b clauses = ⊥
+IsClosureOver a b clauses = IsTooLarge (whole_forms a b clauses)

@@ -1,7 +1,7 @@
 -- What stands above a line and an open group keep, as long as each line is taken.
 use Rattle.std.specs.Prelude.{ℕ, ◌≡◌, ◌≢◌, ◌<◌, ◌≤◌, ◌+◌, List, length, All, AllPairs}
 use Rattle.pair_structure.specs.declared.side.LocalArc.{LocalArc}
-use Rattle.pair_structure.specs.Role.{JoinsTwo}
+use Rattle.pair_structure.specs.Role.{JoinsTwo, RoleParts}
 use Rattle.ctl_text.specs.State.{State, Group, in_locals, in_arcs, in_kind}
 
 pub record AreLocals (names : List (List ℕ)) : Type 0 where
@@ -29,8 +29,14 @@ abbrev pub open_kinds : Group → ℕ
 open_kinds (in_kind k) = 1
 open_kinds group = 0
 
+-- the roles of an open kind are declared
+abbrev pub HasItsRoles : List RoleParts → Group → Type 0
+HasItsRoles roles (in_kind k) = (k.role_a < length roles) × (k.role_b < length roles)
+HasItsRoles roles group = Unit {0}
+
 pub record IsSoundState (s : State) : Type 0 where
   pub few_roles : length s.parts.roles + open_roles s.group ≤ 16
   pub few_kinds : length s.parts.kinds + open_kinds s.group ≤ 16
   pub few_processes : length s.parts.processes ≤ 1024
   pub group : IsSound s.group
+  pub kind_roles : HasItsRoles s.parts.roles s.group

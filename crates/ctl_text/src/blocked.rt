@@ -1,26 +1,23 @@
-ghost use Rattle.std.specs.Prelude.{◌≡◌, ◌↔◌, ◌≤◌, IsTrue, IfOk, IfSome, IfNone, map, length};
-ghost use Rattle.ctl_form.specs.Form.{form_of};
-ghost use Rattle.ctl_form.specs.Kind.{role_at};
-ghost use Rattle.ctl_text.specs.Required.{IsClosureOver};
+ghost use Rattle.std.specs.Prelude.{IfOk, IfSome, IfNone};
 ghost use Rattle.ctl_text.specs.Cause.{IsLowest, IsFree, Blocks, LocalBlocks, StartBlocks, ArcBlocks, EndBlocks};
-ghost use Rattle.ctl_text.specs.Sound.{IsSound, IsSoundState};
+ghost use Rattle.ctl_text.specs.Sound.{IsSound, HasItsRoles, IsSoundState};
 ghost use Rattle.ctl_text.specs.View.{group_of, state_of, said};
 
 use crate::TextCause;
+use crate::closure_count::is_closure_over;
 use crate::graph_cause::{edge_cause, kind_cause, process_cause};
 use crate::item::Item;
 use crate::place::{Place, Reader};
 use crate::role_cause::{arc_cause, local_cause, role_cause, role_end_cause, start_cause};
-use ctl_form::Formula;
-use pair_structure::Role;
-use std::alloc::{AllocError, Global};
+use pair_structure::{Memory, Role};
+use std::alloc::Global;
 
 /// What stands against a line that may stand there.
 pub(crate) fn blocked(
     alloc: Global,
     reader: &Reader,
     item: Item<'_>,
-) -> Result<Option<TextCause>, AllocError>
+) -> Result<Option<TextCause>, Memory>
     requires { IsSoundState (state_of reader.now) }
     ensures some { IfOk result (λ found. IfSome found (IsLowest (Blocks (state_of reader.now) (said item.entry)))) }
     ensures none { IfOk result (λ found. IfNone found (IsFree (Blocks (state_of reader.now) (said item.entry)))) }
@@ -83,41 +80,26 @@ fn arc_blocked(place: &Place, from: &[u8], to: &[u8]) -> Option<TextCause>
     }
 }
 
-fn end_blocked(
-    alloc: Global,
-    roles: &[Role],
-    place: &Place,
-) -> Result<Option<TextCause>, AllocError>
-    requires { IsSound (group_of place.now) }
+fn end_blocked(alloc: Global, roles: &[Role], place: &Place) -> Result<Option<TextCause>, Memory>
+    requires sound { IsSound (group_of place.now) }
+    requires roles { HasItsRoles roles.now (group_of place.now) }
     ensures some { IfOk result (λ found. IfSome found (IsLowest (EndBlocks roles.now (group_of place.now)))) }
     ensures none { IfOk result (λ found. IfNone found (IsFree (EndBlocks roles.now (group_of place.now)))) }
 {
     match place {
         Place::InArcs { locals, arcs, .. } => Ok(role_end_cause(locals, arcs)),
         Place::InKind {
+            name,
             role_a,
             role_b,
             clauses,
-            ..
         } => {
-            if is_closure_over(alloc, roles, *role_a, *role_b, clauses)? {
+            let (a, b) = (&roles[*role_a as usize], &roles[*role_b as usize]);
+            if is_closure_over(alloc, a, b, name, clauses)? {
                 return Ok(Some(TextCause::ClosureOver));
             }
             Ok(None)
         }
         _ => Ok(None),
     }
-}
-
-/// Whether the closure of a kind over these roles has too many members.
-fn is_closure_over(
-    _alloc: Global,
-    _roles: &[Role],
-    _role_a: u8,
-    _role_b: u8,
-    _clauses: &[Formula],
-) -> Result<bool, AllocError>
-    ensures { IfOk result (λ over. IsTrue over ↔ IsClosureOver (role_at _roles.now _role_a) (role_at _roles.now _role_b) (map form_of _clauses.now)) }
-{
-    Ok(false)
 }

@@ -6,6 +6,7 @@ mod beside;
 mod blocked;
 mod cause;
 mod clause;
+mod closure_count;
 mod edges;
 mod formula_fault;
 mod formula_laws;

@@ -19,7 +19,7 @@ returns-in_ok-name-in-Role-clause-sound c =
 pub returns-in_ok-place-in-Kind-clause-sound : goal.returns-in_ok-place-in-Kind-clause-sound
 returns-in_ok-place-in-Kind-clause-sound c =
     let free = rw c.in-Kind.is at c.requires.free in
-    rw (c.placed-in-Kind.ensures, c.in_ok-place-in-Kind.ensures) (kind_opens (state_of c.args.reader) _ _ _ _ c.requires.sound free)
+    rw (c.placed-in-Kind.ensures, c.in_ok-place-in-Kind.ensures, c.deref.ensures.value) (kind_opens (state_of c.args.reader) _ _ _ c.requires.sound free)
 
 pub returns-in_ok-reader-in-End-clause-sound : goal.returns-in_ok-reader-in-End-clause-sound
 returns-in_ok-reader-in-End-clause-sound c =
