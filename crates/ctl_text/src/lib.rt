@@ -18,6 +18,8 @@ mod formula_writer;
 mod graph_cause;
 mod item;
 mod laws;
+#[cfg(test)]
+mod limit_tests;
 mod line;
 mod long;
 mod names;
