@@ -20,7 +20,7 @@ use Rattle.skeleton_tool.specs.Solving.{HasRoles}
 -- the kinds above a line, and the open one, are over the roles above it
 record HaveRoles (s : State) : Type 0 where
   declared : All (HasRoles (length s.parts.roles)) s.parts.kinds
-  open : HasItsRoles s.parts.roles s.group
+  opened : HasItsRoles s.parts.roles s.group
 
 after_local : (roles : List RoleParts) (g : Group) (n : List ℕ) → HasItsRoles roles g → HasItsRoles roles (with_local g n)
 after_local roles before_head n h = h
@@ -71,15 +71,15 @@ with_role : (count : ℕ) (kinds : List PairSpec) (more : ℕ) → count < more 
 with_role count kinds more lt have k d within = let h = have k d within in record { a = (let u = h.a in omega arith); b = (let u = h.b in omega arith) }
 
 after_end : (v : SpecParts) (g : Group) → HaveRoles (record { parts = v; group = g }) → HaveRoles (after (record { parts = v; group = g }) end_line)
-after_end v before_head h = record { declared = h.declared; open = tt }
-after_end v among_roles h = record { declared = h.declared; open = tt }
-after_end v (in_locals name names) h = record { declared = h.declared; open = tt }
-after_end v (in_arcs r) h = record { declared = with_role (length v.roles) v.kinds (length (v.roles ++ r ∷ [])) (omega (arith, length-append v.roles (r ∷ []))) h.declared; open = tt }
-after_end v among_kinds h = record { declared = h.declared; open = tt }
-after_end v (in_kind k) h = record { declared = All-push (HasRoles (length v.roles)) v.kinds k h.declared (record { a = h.open.0; b = h.open.1 }); open = tt }
-after_end v among_processes h = record { declared = h.declared; open = tt }
-after_end v among_edges h = record { declared = h.declared; open = tt }
-after_end v after_done h = record { declared = h.declared; open = tt }
+after_end v before_head h = record { declared = h.declared; opened = tt }
+after_end v among_roles h = record { declared = h.declared; opened = tt }
+after_end v (in_locals name names) h = record { declared = h.declared; opened = tt }
+after_end v (in_arcs r) h = record { declared = with_role (length v.roles) v.kinds (length (v.roles ++ r ∷ [])) (omega (arith, length-append v.roles (r ∷ []))) h.declared; opened = tt }
+after_end v among_kinds h = record { declared = h.declared; opened = tt }
+after_end v (in_kind k) h = record { declared = All-push (HasRoles (length v.roles)) v.kinds k h.declared (record { a = h.opened.0; b = h.opened.1 }); opened = tt }
+after_end v among_processes h = record { declared = h.declared; opened = tt }
+after_end v among_edges h = record { declared = h.declared; opened = tt }
+after_end v after_done h = record { declared = h.declared; opened = tt }
 
 role_within : (roles : List RoleParts) (name : List ℕ) → Contains (role_names roles) name → number_in (role_names roles) name < length roles
 role_within roles name there = let lt = number_within (role_names roles) name there in omega (arith, length-map roles (λ (r : RoleParts). r.name))
@@ -89,17 +89,17 @@ opened_has roles kinds name a b free = (role_within roles a (contained (role_nam
 
 -- a line that nothing stands against keeps it so
 after_said : (v : SpecParts) (g : Group) (item : Said) → IsFree (Blocks (record { parts = v; group = g }) item) → HaveRoles (record { parts = v; group = g }) → HaveRoles (after (record { parts = v; group = g }) item)
-after_said v g head_line free h = record { declared = h.declared; open = tt }
-after_said v g (role_line name) free h = record { declared = h.declared; open = tt }
-after_said v g (local_line n) free h = record { declared = h.declared; open = after_local v.roles g n h.open }
-after_said v g (start_line n) free h = record { declared = h.declared; open = after_start v.roles g n h.open }
-after_said v g (arc_line p q f) free h = record { declared = h.declared; open = after_arc v.roles g p q f h.open }
-after_said v g (kind_line name a b) free h = record { declared = h.declared; open = opened_has v.roles v.kinds name a b free }
-after_said v g (require_line words form) free h = record { declared = h.declared; open = after_form v.roles g form h.open }
+after_said v g head_line free h = record { declared = h.declared; opened = tt }
+after_said v g (role_line name) free h = record { declared = h.declared; opened = tt }
+after_said v g (local_line n) free h = record { declared = h.declared; opened = after_local v.roles g n h.opened }
+after_said v g (start_line n) free h = record { declared = h.declared; opened = after_start v.roles g n h.opened }
+after_said v g (arc_line p q f) free h = record { declared = h.declared; opened = after_arc v.roles g p q f h.opened }
+after_said v g (kind_line name a b) free h = record { declared = h.declared; opened = opened_has v.roles v.kinds name a b free }
+after_said v g (require_line words form) free h = record { declared = h.declared; opened = after_form v.roles g form h.opened }
 after_said v g end_line free h = after_end v g h
-after_said v g (process_line name r) free h = record { declared = h.declared; open = tt }
-after_said v g (edge_line p q kind) free h = record { declared = h.declared; open = tt }
-after_said v g done_line free h = record { declared = h.declared; open = tt }
+after_said v g (process_line name r) free h = record { declared = h.declared; opened = tt }
+after_said v g (edge_line p q kind) free h = record { declared = h.declared; opened = tt }
+after_said v g done_line free h = record { declared = h.declared; opened = tt }
 
 taken : (s : State) (line : List ℕ) (t : State) → Takes s line t → HaveRoles s → HaveRoles t
 taken s line t takes h = elim takes.leaves [
@@ -112,4 +112,4 @@ stand s [] v gives h = subst (λ (p : SpecParts). All (HasRoles (length p.roles)
 stand s (line ∷ lines) v (t, takes, rest) h = stand t lines v rest (taken s line t takes h)
 
 pub kinds_have_roles : (bytes : List ℕ) (v : SpecParts) → IsSpecText bytes v → All (HasRoles (length v.roles)) v.kinds
-kinds_have_roles bytes v text = stand first_state (lines_of bytes) v text (record { declared = λ k d lt. absurd (omega arith); open = tt })
+kinds_have_roles bytes v text = stand first_state (lines_of bytes) v text (record { declared = λ k d lt. absurd (omega arith); opened = tt })
