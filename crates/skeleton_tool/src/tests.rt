@@ -85,8 +85,7 @@ done
 /// Exclusion that is not spelled as AG of a proposition.
 const WEAK: &str = "kind weak phil phil\nrequire A[!(a.C & b.C) W false]\nend\n";
 
-const PROCESSES: &str =
-    "process p0 phil\n# beside\n\tprocess p1 phil\nedge p0 p1 excl\n";
+const PROCESSES: &str = "process p0 phil\n# beside\n\tprocess p1 phil\nedge p0 p1 excl\n";
 
 /// Mutual exclusion in which each philosopher that tries will eat, with two processes.
 const MUTEX: &str = "kind mutex phil phil
