@@ -71,7 +71,10 @@ fn the_longest_clause(rt: HostRuntime) -> Result<(), Fail> {
     push_clause(&mut text, "!", 255, "true")?;
     push_clause(&mut text, "!", 256, "a.X )")?;
     let what = TextCause::Long;
-    assert_eq!(rt; read_spec(alloc, &text).err(), Some(TextFault::At { line: 17, what }));
+    assert_eq!(rt;
+        read_spec(alloc, &text).err(),
+        Some(TextFault::At { line: 17, what })
+    );
     Ok(())
 }
 
@@ -84,7 +87,10 @@ fn the_most_local_states(rt: HostRuntime) -> Result<(), Fail> {
         text.extend_from_slice(format!(in alloc; "local L{local}\n")?.as_str().as_bytes())?;
     }
     let what = TextCause::TooMany { limit: 32 };
-    assert_eq!(rt; read_spec(alloc, &text).err(), Some(TextFault::At { line: 35, what }));
+    assert_eq!(rt;
+        read_spec(alloc, &text).err(),
+        Some(TextFault::At { line: 35, what })
+    );
     Ok(())
 }
 
@@ -103,6 +109,9 @@ fn the_most_neighbours(rt: HostRuntime) -> Result<(), Fail> {
         text.extend_from_slice(line.as_str().as_bytes())?;
     }
     let what = TextCause::DegreeOver { process: 0 };
-    assert_eq!(rt; read_spec(alloc, &text).err(), Some(TextFault::At { line: 83, what }));
+    assert_eq!(rt;
+        read_spec(alloc, &text).err(),
+        Some(TextFault::At { line: 83, what })
+    );
     Ok(())
 }

@@ -94,7 +94,11 @@ fn bad_lines_are_named(rt: HostRuntime) -> Result<(), Fail> {
     for row in BAD.split('\n') {
         let (text, cause) = row.split_once('|').ok_or("row")?;
         let bytes = text_of(alloc, text)?;
-        assert_eq!(rt; told(alloc, bytes.as_str().as_bytes())?.as_str(), cause, "{text}");
+        assert_eq!(rt;
+            told(alloc, bytes.as_str().as_bytes())?.as_str(),
+            cause,
+            "{text}"
+        );
     }
     Ok(())
 }
