@@ -9,13 +9,15 @@ use Rattle.std.specs.List.{list_any}
 use Rattle.pair_structure.specs.declared.side.LocalArc.{LocalArc}
 use Rattle.pair_structure.specs.Role.{RoleParts, JoinsTwo, AreLawful, HasArcFrom}
 use Rattle.ctl_form.specs.declared.pair_spec.PairSpec.{PairSpec}
-use Rattle.ctl_text.specs.declared.network.Process.{Process}
+use Rattle.interconnection.specs.declared.parts.Process.{Process}
 use Rattle.ctl_text.specs.declared.cause.TextCause.TheVariants.{UnknownName, Twice, SelfArc, NoArc, TooMany}
-use Rattle.ctl_text.specs.Cause.{IsFree, NameStands, ArcStands, KindStands, ProcessStands, RoleEndStands}
-use Rattle.ctl_text.specs.Value.{SpecParts, number_in, role_names, kind_names, process_names}
+use Rattle.ctl_text.specs.Cause.{IsFree, NameStands, ArcStands, KindStands, ProcessStands, EdgeStands, RoleEndStands}
+use Rattle.ctl_text.specs.Value.{SpecParts, number_in, role_names, kind_names, kind_ends, process_names}
 use Rattle.ctl_text.specs.Sound.{AreLocals, AreArcs, IsSoundState}
-use Rattle.ctl_text.specs.Item.{end_line, process_line}
+use Rattle.ctl_text.specs.Item.{end_line, process_line, edge_line}
 use Rattle.ctl_text.specs.State.{State, Group, in_locals, in_arcs, in_kind, among_processes, before_head, among_roles, among_kinds, among_edges, after_done, MayStand, opened_kind, after}
+use Rattle.ctl_text.proofs.EdgeFits.{edge_named, edge_fits}
+use Rattle.ctl_text.proofs.GraphKept.{role_grown, kind_more, process_grown, edge_grown, degree_grown}
 use Rattle.ctl_text.proofs.Named.{contained, named_at, number_within}
 
 not_over : (n m : ℕ) → (m ≤ n → ⊥) → n < m
@@ -99,6 +101,8 @@ role_opens s name role_name names sound free none = record {
   few_processes = sound.few_processes;
   group = no_locals names none;
   kind_roles = tt;
+  network = sound.network;
+  few_edges = sound.few_edges;
 }
 
 role_within : (roles : List RoleParts) (name : List ℕ) → Contains (role_names roles) name → number_in (role_names roles) name < length roles
@@ -112,6 +116,8 @@ kind_opens s name a b sound free = record {
   few_processes = sound.few_processes;
   group = tt;
   kind_roles = (role_within s.parts.roles a (contained (role_names s.parts.roles) a (λ h. free.free UnknownName (inl (refl, h)))), role_within s.parts.roles b (contained (role_names s.parts.roles) b (λ h. free.free UnknownName (inr (inl (refl, h))))));
+  network = sound.network;
+  few_edges = sound.few_edges;
 }
 
 -- the open role or kind is declared
@@ -122,6 +128,8 @@ end_sound v (in_arcs r) sound may = record {
   few_processes = sound.few_processes;
   group = tt;
   kind_roles = tt;
+  network = role_grown v.roles r (kind_ends v.kinds) v.processes v.edges sound.network sound.few_roles;
+  few_edges = sound.few_edges;
 }
 end_sound v (in_kind k) sound may = record {
   few_roles = sound.few_roles;
@@ -129,6 +137,8 @@ end_sound v (in_kind k) sound may = record {
   few_processes = sound.few_processes;
   group = tt;
   kind_roles = tt;
+  network = kind_more v.roles v.kinds k v.processes v.edges sound.network sound.few_kinds sound.kind_roles;
+  few_edges = sound.few_edges;
 }
 end_sound v before_head sound may = absurd may
 end_sound v among_roles sound may = absurd may
@@ -140,10 +150,27 @@ end_sound v after_done sound may = absurd may
 
 -- a process is declared
 pub process_sound : (s : State) (name r : List ℕ) → IsSoundState s → IsFree (ProcessStands s.parts.roles s.parts.processes name r) → IsSoundState (after s (process_line name r))
-process_sound s name r sound free = record {
-  few_roles = (let h = sound.few_roles in omega arith);
-  few_kinds = (let h = sound.few_kinds in omega arith);
-  few_processes = (let h = process_room s.parts.roles s.parts.processes name r free in omega (arith, length-append s.parts.processes (record { name = name; role = number_in (role_names s.parts.roles) r } ∷ [])));
-  group = tt;
-  kind_roles = tt;
-}
+process_sound s name r sound free =
+    let room = process_room s.parts.roles s.parts.processes name r free in
+    let within = role_within s.parts.roles r (contained (role_names s.parts.roles) r (λ h. free.free UnknownName (inl (refl, h)))) in record {
+      few_roles = (let h = sound.few_roles in omega arith);
+      few_kinds = (let h = sound.few_kinds in omega arith);
+      few_processes = omega (arith, room, length-append s.parts.processes (record { name = name; role = number_in (role_names s.parts.roles) r } ∷ []));
+      group = tt;
+      kind_roles = tt;
+      network = process_grown s.parts.roles (kind_ends s.parts.kinds) s.parts.processes (record { name = name; role = number_in (role_names s.parts.roles) r }) s.parts.edges sound.network room within sound.few_edges;
+      few_edges = sound.few_edges;
+    }
+
+-- an edge is declared
+pub edge_sound : (s : State) (p q kind : List ℕ) → IsSoundState s → IsFree (EdgeStands s.parts.processes s.parts.kinds s.parts.edges p q kind) → IsSoundState (after s (edge_line p q kind))
+edge_sound s p q kind sound free =
+    let fits = edge_fits s.parts.processes s.parts.kinds s.parts.edges p q kind free in record {
+      few_roles = (let h = sound.few_roles in omega arith);
+      few_kinds = (let h = sound.few_kinds in omega arith);
+      few_processes = sound.few_processes;
+      group = tt;
+      kind_roles = tt;
+      network = edge_grown s.parts.roles (kind_ends s.parts.kinds) s.parts.processes s.parts.edges (edge_named s.parts.processes s.parts.kinds p q kind) sound.network fits.within fits.differ fits.fresh fits.roles fits.room sound.few_edges;
+      few_edges = λ k. degree_grown s.parts.edges (edge_named s.parts.processes s.parts.kinds p q kind) k fits.room (sound.few_edges k);
+    }

@@ -4,7 +4,10 @@ pub mod CauseRows
 pub mod Clauses
 pub mod ClosureCount
 pub mod Crowded
+pub mod EdgeCount
+pub mod EdgeFits
 pub mod EdgeTables
+pub mod GraphKept
 pub mod ItemLaws
 pub mod Judged
 pub mod Kept
