@@ -18,6 +18,7 @@ pub mod ReadAgain
 pub mod ReadTakes
 pub mod ReadingRules
 pub mod RoleNames
+pub mod SpecTexts
 pub mod Spelled
 pub mod TextLaws
 pub mod TokenLaws

@@ -27,6 +27,9 @@ mod processes;
 mod read;
 mod role_cause;
 mod sign;
+mod spec_writer;
+#[cfg(test)]
+mod spec_writer_tests;
 mod take;
 #[cfg(test)]
 mod tests;
@@ -40,3 +43,4 @@ pub use laws::never_both;
 pub use network::{Edge, Process};
 pub use read::{Spec, read_spec};
 pub use sign::{Leaf, Mark, Prefix, Sign};
+pub use spec_writer::write_spec;
