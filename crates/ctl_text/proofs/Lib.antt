@@ -5,10 +5,14 @@ pub mod Clauses
 pub mod ClosureCount
 pub mod Crowded
 pub mod EdgeTables
+pub mod GraphAgain
 pub mod ItemLaws
 pub mod Judged
 pub mod Kept
+pub mod KindsAgain
 pub mod LineLaws
+pub mod LinesAgain
+pub mod LinesTaken
 pub mod LongLaws
 pub mod Lowest
 pub mod NameBytes
@@ -18,6 +22,7 @@ pub mod ReadAgain
 pub mod ReadTakes
 pub mod ReadingRules
 pub mod RoleNames
+pub mod RolesAgain
 pub mod SpecTexts
 pub mod Spelled
 pub mod TextLaws

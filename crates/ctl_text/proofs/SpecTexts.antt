@@ -2,7 +2,7 @@
 use Rattle.std.proofs.Common.{ℕ, ◌≡◌, List, [], ◌∷◌, ◌++◌, codes, map, refl, ap, ◌∙◌, append_assoc}
 use Rattle.std.proofs.lemmas.Grind.{flat_map-append}
 use Rattle.std.specs.List.{flat_map}
-use Rattle.ctl_text.specs.Item.{head_line, done_line}
+use Rattle.ctl_text.specs.Item.{done_line}
 use Rattle.ctl_text.specs.SpecText.{line_for, ended, role_lines, kind_lines, process_text, edge_text, spec_text, role_text, kind_text}
 use Rattle.ctl_text.specs.Value.{SpecParts}
 

@@ -27,6 +27,7 @@ mod processes;
 mod read;
 mod role_cause;
 mod sign;
+mod spec_laws;
 mod spec_writer;
 #[cfg(test)]
 mod spec_writer_tests;
@@ -43,4 +44,5 @@ pub use laws::never_both;
 pub use network::{Edge, Process};
 pub use read::{Spec, read_spec};
 pub use sign::{Leaf, Mark, Prefix, Sign};
+pub use spec_laws::canonical_is_spec_text;
 pub use spec_writer::write_spec;
