@@ -8,10 +8,14 @@ pub mod EdgeCount
 pub mod EdgeFits
 pub mod EdgeTables
 pub mod GraphKept
+pub mod GraphAgain
 pub mod ItemLaws
 pub mod Judged
 pub mod Kept
+pub mod KindsAgain
 pub mod LineLaws
+pub mod LinesAgain
+pub mod LinesTaken
 pub mod LongLaws
 pub mod Lowest
 pub mod NameBytes
@@ -21,6 +25,8 @@ pub mod ReadAgain
 pub mod ReadTakes
 pub mod ReadingRules
 pub mod RoleNames
+pub mod RolesAgain
+pub mod SpecTexts
 pub mod Spelled
 pub mod TextLaws
 pub mod TokenLaws

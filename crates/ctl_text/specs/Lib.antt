@@ -12,6 +12,8 @@ pub mod Long
 pub mod Required
 pub mod Sign
 pub mod Sound
+pub mod SoundValue
+pub mod SpecText
 pub mod State
 pub mod Text
 pub mod Token

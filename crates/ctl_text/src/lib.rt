@@ -28,6 +28,10 @@ mod processes;
 mod read;
 mod role_cause;
 mod sign;
+mod spec_laws;
+mod spec_writer;
+#[cfg(test)]
+mod spec_writer_tests;
 mod take;
 #[cfg(test)]
 mod tests;
@@ -40,3 +44,5 @@ pub use formula_laws::{canonical_is_formula, is_spelled_once};
 pub use laws::never_both;
 pub use read::{Spec, read_spec};
 pub use sign::{Leaf, Mark, Prefix, Sign};
+pub use spec_laws::canonical_is_spec_text;
+pub use spec_writer::write_spec;

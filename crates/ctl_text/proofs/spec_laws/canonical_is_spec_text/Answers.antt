@@ -1,0 +1,5 @@
+use Rattle.ctl_text.proofs.GraphAgain.{text_stands}
+use Rattle.ctl_text.proofs.spec_laws.canonical_is_spec_text.Goals as goal
+
+pub returns : goal.returns
+returns c = text_stands

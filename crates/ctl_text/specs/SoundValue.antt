@@ -1,0 +1,73 @@
+-- What each specification keeps that is read of a text, so that its canonical text is read again.
+use Rattle.std.specs.Prelude.{ℕ, ◌≡◌, ◌≢◌, ◌<◌, ◌≤◌, ◌⊎◌, List, length, All, AllPairs}
+use Rattle.pair_structure.specs.Name.{IsName}
+use Rattle.pair_structure.specs.Role.{RoleParts, IsRole}
+use Rattle.ctl_form.specs.declared.pair_spec.PairSpec.{PairSpec}
+use Rattle.ctl_form.specs.Form.{Form}
+use Rattle.ctl_form.specs.Kind.{role_at}
+use Rattle.ctl_text.specs.declared.network.Process.{Process}
+use Rattle.ctl_text.specs.declared.network.Edge.{Edge}
+use Rattle.ctl_text.specs.Canonical.{IsOver}
+use Rattle.ctl_text.specs.Cause.{AreOfKind}
+use Rattle.ctl_text.specs.FormulaText.{Names, formula_text}
+use Rattle.ctl_text.specs.Long.{IsLong}
+use Rattle.ctl_text.specs.Required.{IsClosureOver}
+use Rattle.ctl_text.specs.SpecText.{spec_text}
+use Rattle.ctl_text.specs.Text.{IsSpecText}
+use Rattle.ctl_text.specs.Token.{tokens_of}
+use Rattle.ctl_text.specs.Value.{SpecParts, role_names, kind_names, process_names, degree_of}
+
+-- each name differs from those behind it
+abbrev pub Differ : List (List ℕ) → Type 0
+Differ names = AllPairs (λ x y. x ≢ y) names
+
+pub record IsNamedRole (r : RoleParts) : Type 0 where
+  pub name : IsName r.name
+  pub locals : All IsName r.locals
+  pub role : IsRole r
+
+-- a clause over the local states of the two sides, whose canonical text is not too long to be read
+pub record IsReadable (a b : Names) (f : Form) : Type 0 where
+  pub over : IsOver a b f
+  pub short : IsLong (tokens_of (formula_text a b f)) → ⊥
+
+pub record IsNamedKind (roles : List RoleParts) (k : PairSpec) : Type 0 where
+  pub name : IsName k.name
+  pub role_a : k.role_a < length roles
+  pub role_b : k.role_b < length roles
+  pub clauses : All (IsReadable (role_at roles k.role_a).locals (role_at roles k.role_b).locals) k.clauses
+  pub closure : IsClosureOver (role_at roles k.role_a) (role_at roles k.role_b) k.clauses → ⊥
+
+pub record IsNamedProcess (count : ℕ) (p : Process) : Type 0 where
+  pub name : IsName p.name
+  pub role : p.role < count
+
+-- an edge between two processes of its kind's roles
+pub record IsEdgeOf (processes : List Process) (kinds : List PairSpec) (e : Edge) : Type 0 where
+  pub a : e.a < length processes
+  pub b : e.b < length processes
+  pub kind : e.kind < length kinds
+  pub differ : e.a ≢ e.b
+  pub of_kind : AreOfKind processes kinds e.a e.b e.kind
+
+-- both edges are between the same processes
+abbrev pub JoinSame : Edge → Edge → Type 0
+JoinSame x y = ((x.a ≡ y.a) × (x.b ≡ y.b)) ⊎ ((x.a ≡ y.b) × (x.b ≡ y.a))
+
+pub record IsSoundValue (v : SpecParts) : Type 0 where
+  pub roles : All IsNamedRole v.roles
+  pub roles_differ : Differ (role_names v.roles)
+  pub few_roles : length v.roles ≤ 16
+  pub kinds : All (IsNamedKind v.roles) v.kinds
+  pub kinds_differ : Differ (kind_names v.kinds)
+  pub few_kinds : length v.kinds ≤ 16
+  pub processes : All (IsNamedProcess (length v.roles)) v.processes
+  pub processes_differ : Differ (process_names v.processes)
+  pub few_processes : length v.processes ≤ 1024
+  pub edges : All (IsEdgeOf v.processes v.kinds) v.edges
+  pub edges_differ : AllPairs (λ (x y : Edge). JoinSame x y → ⊥) v.edges
+  pub few_beside : (k : ℕ) → degree_of v.edges k ≤ 32
+
+-- the canonical text of such a specification is a text of it
+abbrev pub CanonicalIsText : Type 0
+CanonicalIsText = (v : SpecParts) → IsSoundValue v → IsSpecText (spec_text v) v
