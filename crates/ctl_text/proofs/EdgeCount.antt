@@ -36,7 +36,7 @@ below_more n (e ∷ edges) =
 
 none_below : (edges : List Edge) → below zero edges ≡ 0
 none_below [] = refl
-none_below (e ∷ edges) = none_below edges
+none_below (e ∷ edges) = let no : nat_lt e.a 0 ≡ false = grind (arith, nat_tests) in let rest = none_below edges in rw no (omega (arith, rest))
 
 started : (a b : ℕ) (t u : Bool) (rest : List ℕ) → cond t 1 0 + length rest ≤ length (cond t (b ∷ []) (cond u (a ∷ []) []) ++ rest)
 started a b true u rest = omega arith
@@ -54,7 +54,7 @@ few_below (suc n) edges few =
     let step = below_more n edges in
     let here = few_start n edges in omega (arith, before, step, here, few n, beside-length edges n)
 
-counted : (a n : ℕ) → a < n → cond (nat_lt a n) 1 0 ≡ 1
+counted : (a n : ℕ) → a < n → ◌≡◌ {A = ℕ} (cond (nat_lt a n) 1 0) 1
 counted a n lt = let yes : nat_lt a n ≡ true = grind (arith, nat_tests) in rw yes refl
 
 all_below : (n : ℕ) (edges : List Edge) → ((k : ℕ) (d : Edge) → k < length edges → (slice_index_or edges k d).a < n) → below n edges ≡ length edges

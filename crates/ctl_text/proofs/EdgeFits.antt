@@ -51,7 +51,7 @@ edge_fits processes kinds edges p q kind free =
     let kind_there = contained (kind_names kinds) kind (λ h. free.free UnknownName (inr (inr (inl (refl, h))))) in
     let known = kind_within kinds kind kind_there in
     let fits = of_kind processes kinds e.a e.b e.kind (λ h. free.free RoleMismatch (inr (inr (inr (inr (inr (inr (refl, h)))))))) in record {
-      within = (process_within processes p p_there, process_within processes q q_there, omega (arith, known, length-map kinds (λ (k : PairSpec). (k.role_a, k.role_b))));
+      within = (process_within processes p p_there, process_within processes q q_there, omega (arith, known, length-map {B = ℕ × ℕ} kinds (λ (k : PairSpec). (k.role_a, k.role_b))));
       differ = λ same. free.free SelfEdge (inr (inr (inr (inl (refl, same)))));
       fresh = λ joined. free.free EdgeTwice (inr (inr (inr (inr (inl (refl, joined))))));
       roles = has_roles processes kinds e known fits;

@@ -53,13 +53,13 @@ beside_joined (e ∷ edges) p q h = elim (Contains-append_cases (other_end p e) 
 ]
   where
     further : AreJoined edges p q → AreJoined (e ∷ edges) p q
-    further (i, x, lt, is, meet) = (suc i, x, omega arith, is, joins)
+    further (i, x, lt, is, meet) = (suc i, x, omega arith, is, meet)
 
 pub joined_beside : (edges : List Edge) (p q : ℕ) → AreJoined edges p q → Contains (beside edges p) q
 joined_beside [] p q (i, x, lt, is, meet) = absurd (omega arith)
 joined_beside (e ∷ edges) p q (zero, x, lt, is, meet) =
     Contains-append_left (other_end p e) (beside edges p) q (join_ends e.a e.b p q (e.a == p) (e.b == p) refl refl (subst (λ (x : Edge). Joins x.a x.b p q) (sym is) meet))
-joined_beside (e ∷ edges) p q (suc i, x, lt, is, meet) = Contains-append_right (other_end p e) (beside edges p) q (joined_beside edges p q (i, x, omega arith, is, joins))
+joined_beside (e ∷ edges) p q (suc i, x, lt, is, meet) = Contains-append_right (other_end p e) (beside edges p) q (joined_beside edges p q (i, x, omega arith, is, meet))
 
 one_more : (k a b : ℕ) (t u : Bool) (old new : List ℕ) → (a == k) ≡ t → (b == k) ≡ u → (a ≡ k → new ≡ old ++ b ∷ []) → ((a ≡ k → ⊥) → b ≡ k → new ≡ old ++ a ∷ []) → ((a ≡ k → ⊥) → (b ≡ k → ⊥) → new ≡ old) → new ≡ old ++ cond t (b ∷ []) (cond u (a ∷ []) [])
 one_more k a b true u old new e f first second other = first (eqb-true a k e)

@@ -8,18 +8,42 @@ use Rattle.std.specs.List.{flat_map}
 use Rattle.pair_structure.specs.Role.{RoleParts}
 use Rattle.ctl_form.specs.declared.pair_spec.PairSpec.{PairSpec}
 use Rattle.ctl_form.specs.Kind.{role_at}
-use Rattle.ctl_text.specs.declared.network.Process.{Process}
-use Rattle.ctl_text.specs.declared.network.Edge.{Edge}
+use Rattle.interconnection.specs.declared.parts.Process.{Process}
+use Rattle.interconnection.specs.declared.parts.Edge.{Edge}
+use Rattle.interconnection.specs.Graph.{joins, degree_of, JoinSame}
+use Rattle.interconnection.specs.Network.{AreLawful}
 use Rattle.ctl_text.specs.declared.cause.TextCause.{TextCause}
-use Rattle.ctl_text.specs.Cause.{ProcessStands, JoinStands, EdgeStands}
+use Rattle.ctl_text.specs.Cause.{ProcessStands, JoinStands, EdgeStands, AreOfKind}
 use Rattle.ctl_text.specs.Item.{head_line, done_line}
-use Rattle.ctl_text.specs.SoundValue.{Differ, IsNamedRole, IsNamedKind, IsNamedProcess, IsEdgeOf, JoinSame, CanonicalIsText}
-use Rattle.ctl_text.specs.SpecText.{line_for, role_lines, kind_lines, process_item, process_text, edge_item, edge_text, spec_lines}
+use Rattle.ctl_text.specs.SoundValue.{Differ, IsNamedRole, IsNamedKind, IsNamedProcess, IsSoundValue}
+use Rattle.ctl_text.specs.SpecText.{line_for, role_lines, kind_lines, process_item, process_text, edge_item, edge_text, spec_lines, spec_text}
 use Rattle.ctl_text.specs.State.{State, Group, among_roles, among_processes, among_edges, after_done, first_state}
-use Rattle.ctl_text.specs.Value.{role_names, kind_names, process_names, number_in, is_at, degree_of, AreJoined, kind_at, process_at}
+use Rattle.ctl_text.specs.Text.{IsSpecText}
+use Rattle.ctl_text.specs.Value.{role_names, kind_names, process_names, SpecParts, kind_ends, number_in, AreJoined, kind_at, process_at}
+use Rattle.ctl_text.proofs.GraphKept.{ends_at}
 use Rattle.ctl_text.proofs.KindsAgain.{LetsEdges, LetsProcesses, role_there, name_there, kinds_go}
 use Rattle.ctl_text.proofs.LinesTaken.{Goes, goes_further, goes_stand, item_goes}
 use Rattle.ctl_text.proofs.RolesAgain.{At, name_free, use_free, distinct_new, roles_go}
+
+-- an edge between two processes of its kind's roles
+record IsEdgeOf (processes : List Process) (kinds : List PairSpec) (e : Edge) : Type 0 where
+  a : e.a < length processes
+  b : e.b < length processes
+  kind : e.kind < length kinds
+  differ : e.a ≡ e.b → ⊥
+  of_kind : AreOfKind processes kinds e.a e.b e.kind
+
+edge_of : (v : SpecParts) → AreLawful v.roles (kind_ends v.kinds) v.processes v.edges → All (IsEdgeOf v.processes v.kinds) v.edges
+edge_of v h k d lt =
+    let within = h.in_range k d lt in
+    let kind : (get_or v.edges k d).kind < length v.kinds = (let below = within.2 in omega (arith, below, length-map {B = ℕ × ℕ} v.kinds (λ (k : PairSpec). (k.role_a, k.role_b)))) in
+    let at = ends_at v.kinds (get_or v.edges k d).kind kind in record {
+      a = within.0;
+      b = within.1;
+      kind = kind;
+      differ = h.joins_two k d lt;
+      of_kind = record { role_a = (h.matching k d lt).0 ∙ ap (λ (ends : ℕ × ℕ). ends.0) at; role_b = (h.matching k d lt).1 ∙ ap (λ (ends : ℕ × ℕ). ends.1) at };
+    }
 
 process_free : (rs : List RoleParts) (ps : List Process) (name r : List ℕ) → Contains (role_names rs) r → (Contains (process_names ps) name → ⊥) → length (process_names ps) < 1024 → (cause : TextCause) → ProcessStands rs ps name r cause → ⊥
 process_free rs ps name r there fresh few cause (inl h) = use_free (role_names rs) r there cause h
@@ -43,22 +67,22 @@ processes_go g rs ks front (p ∷ back) tail t lets named differ each distinct f
     (record { free = process_free rs front p.name (role_at rs p.role).name there.0 fresh (omega (arith, length-append front (p ∷ back), length-map front (λ (p : Process). p.name))) })
     (subst (λ (q : Process). Goes (At rs ks (front ++ q ∷ []) [] among_processes) (map (process_text rs) back ++ tail) t) (sym (process_again rs p (number_in (role_names rs) (role_at rs p.role).name) there.1)) more)
 
-at_a : (k : ℕ) (e : Edge) → k ≡ e.a → is_at k e ≡ true
+at_a : (k : ℕ) (e : Edge) → k ≡ e.a → joins k e ≡ true
 at_a k e h = grind (arith, nat_tests)
 
-at_b : (k : ℕ) (e : Edge) → k ≡ e.b → is_at k e ≡ true
+at_b : (k : ℕ) (e : Edge) → k ≡ e.b → joins k e ≡ true
 at_b k e h = grind (arith, nat_tests)
 
-at_one : (k : ℕ) (e : Edge) → (k ≡ e.a) ⊎ (k ≡ e.b) → is_at k e ≡ true
+at_one : (k : ℕ) (e : Edge) → (k ≡ e.a) ⊎ (k ≡ e.b) → joins k e ≡ true
 at_one k e (inl h) = at_a k e h
 at_one k e (inr h) = at_b k e h
 
 -- an edge of its own counts
-degree_more : (front : List Edge) (e : Edge) (back : List Edge) (k : ℕ) → is_at k e ≡ true → degree_of front k + 1 ≤ degree_of (front ++ e ∷ back) k
+degree_more : (front : List Edge) (e : Edge) (back : List Edge) (k : ℕ) → joins k e ≡ true → degree_of front k + 1 ≤ degree_of (front ++ e ∷ back) k
 degree_more front e back k h =
-    let whole = sum_by-append (λ (x : Edge). cond (is_at k x) 1 0) front (e ∷ back) in
-    let last = sum_by-cons (λ (x : Edge). cond (is_at k x) 1 0) e back in
-    let one : ◌≡◌ {A = ℕ} (cond (is_at k e) 1 0) 1 = rw h refl in
+    let whole = sum_by-append (λ (x : Edge). cond (joins k x) 1 0) front (e ∷ back) in
+    let last = sum_by-cons (λ (x : Edge). cond (joins k x) 1 0) e back in
+    let one : ◌≡◌ {A = ℕ} (cond (joins k e) 1 0) 1 = rw h refl in
     omega (arith, whole, last, one)
 
 apart : (front : List Edge) (e : Edge) (back : List Edge) → AllPairs (λ (x y : Edge). JoinSame x y → ⊥) (front ++ e ∷ back) → AreJoined front e.a e.b → ⊥
@@ -106,14 +130,15 @@ edges_go g rs ks ps front (e ∷ back) lets kinds processes kinds_differ differ 
     (record { free = edge_free ps ks front e (process_at ps e.a).name (process_at ps e.b).name (kind_at ks e.kind).name p.0 q.0 k.0 p.1 q.1 k.1 (join_free ps ks front e back is apart_all few) })
     (subst (λ (x : Edge). Goes (At rs ks ps (front ++ x ∷ []) among_edges) tail (At rs ks ps (front ++ e ∷ back) after_done)) (sym (edge_again e (number_in (process_names ps) (process_at ps e.a).name) (number_in (process_names ps) (process_at ps e.b).name) (number_in (kind_names ks) (kind_at ks e.kind).name) p.1 q.1 k.1)) more)
 
-pub text_stands : CanonicalIsText
+pub text_stands : (v : SpecParts) → IsSoundValue v → IsSpecText (spec_text v) v
 text_stands v is =
+    let few_kinds : length v.kinds ≤ 16 = (let few = is.network.few_kinds in omega (arith, few, length-map {B = ℕ × ℕ} v.kinds (λ (k : PairSpec). (k.role_a, k.role_b)))) in
     let last = At v.roles v.kinds v.processes v.edges after_done in
     let edges : List (List ℕ) = map (edge_text v.processes v.kinds) v.edges ++ (line_for done_line ∷ []) in
     let processes : List (List ℕ) = map (process_text v.roles) v.processes ++ edges in
     let kinds : List (List ℕ) = flat_map (kind_lines v.roles) v.kinds ++ processes in
-    let from_edges = λ (g : Group) (lets : LetsEdges g). edges_go g v.roles v.kinds v.processes [] v.edges lets is.kinds is.processes is.kinds_differ is.processes_differ is.edges is.edges_differ is.few_beside in
-    let from_processes = λ (g : Group) (lets : LetsProcesses g). processes_go g v.roles v.kinds [] v.processes edges last lets is.roles is.roles_differ is.processes is.processes_differ is.few_processes from_edges in
-    let from_kinds = kinds_go among_roles v.roles [] v.kinds processes last (λ name a b. tt, (λ name r. tt, (λ p q kind. tt, tt))) is.roles is.roles_differ is.kinds is.kinds_differ is.few_kinds from_processes in
-    let from_roles = goes_further (At [] [] [] [] among_roles) (At v.roles [] [] [] among_roles) last (flat_map role_lines v.roles) kinds (roles_go [] v.roles is.roles is.roles_differ is.few_roles) from_kinds in
+    let from_edges = λ (g : Group) (lets : LetsEdges g). edges_go g v.roles v.kinds v.processes [] v.edges lets is.kinds is.processes is.kinds_differ is.processes_differ (edge_of v is.network) is.network.single is.few_beside in
+    let from_processes = λ (g : Group) (lets : LetsProcesses g). processes_go g v.roles v.kinds [] v.processes edges last lets is.roles is.roles_differ is.processes is.processes_differ is.network.few_processes from_edges in
+    let from_kinds = kinds_go among_roles v.roles [] v.kinds processes last (λ name a b. tt, (λ name r. tt, (λ p q kind. tt, tt))) is.roles is.roles_differ is.kinds is.kinds_differ few_kinds from_processes in
+    let from_roles = goes_further (At [] [] [] [] among_roles) (At v.roles [] [] [] among_roles) last (flat_map role_lines v.roles) kinds (roles_go [] v.roles is.roles is.roles_differ is.network.few_roles) from_kinds in
     goes_stand first_state last (spec_lines v) v (item_goes first_state last head_line (flat_map role_lines v.roles ++ kinds) tt tt tt (record { free = λ cause h. h }) from_roles) (refl, refl)

@@ -131,7 +131,7 @@ ends_at kinds n lt = get_or-map (λ (k : PairSpec). (k.role_a, k.role_b)) kinds 
 pub kind_more : (roles : List RoleParts) (kinds : List PairSpec) (k : PairSpec) (processes : List Process) (edges : List Edge)
     → AreLawful roles (kind_ends kinds) processes edges → length kinds + 1 ≤ 16 → (k.role_a < length roles) × (k.role_b < length roles) → AreLawful roles (kind_ends (kinds ++ k ∷ [])) processes edges
 kind_more roles kinds k processes edges h room within = subst (λ ends. AreLawful roles ends processes edges) (sym (ends_push kinds k))
-    (kind_grown roles (kind_ends kinds) (k.role_a, k.role_b) processes edges h (omega (arith, room, length-map kinds (λ (k : PairSpec). (k.role_a, k.role_b)))) within)
+    (kind_grown roles (kind_ends kinds) (k.role_a, k.role_b) processes edges h (omega (arith, room, length-map {B = ℕ × ℕ} kinds (λ (k : PairSpec). (k.role_a, k.role_b)))) within)
 
 -- nothing is declared
 pub none_declared : AreLawful [] [] [] []

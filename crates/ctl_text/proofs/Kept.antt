@@ -14,7 +14,7 @@ use Rattle.ctl_text.specs.declared.cause.TextCause.TheVariants.{UnknownName, Twi
 use Rattle.ctl_text.specs.Cause.{IsFree, NameStands, ArcStands, KindStands, ProcessStands, EdgeStands, RoleEndStands}
 use Rattle.ctl_text.specs.Value.{SpecParts, number_in, role_names, kind_names, kind_ends, process_names}
 use Rattle.ctl_text.specs.Sound.{AreLocals, AreArcs, IsSoundState}
-use Rattle.ctl_text.specs.Item.{end_line, process_line, edge_line}
+use Rattle.ctl_text.specs.Item.{head_line, end_line, process_line, edge_line, done_line}
 use Rattle.ctl_text.specs.State.{State, Group, in_locals, in_arcs, in_kind, among_processes, before_head, among_roles, among_kinds, among_edges, after_done, MayStand, opened_kind, after}
 use Rattle.ctl_text.proofs.EdgeFits.{edge_named, edge_fits}
 use Rattle.ctl_text.proofs.GraphKept.{role_grown, kind_more, process_grown, edge_grown, degree_grown}
@@ -93,6 +93,29 @@ process_room roles processes name r free = let few = not_over (length (process_n
 pub no_locals : (names : List (List ℕ)) → names ≡ [] → AreLocals names
 no_locals names none = rw none (record { few_locals = omega arith; names_differ = λ i j d lt within. absurd (omega arith) })
 
+-- the head, or the last line
+pub head_sound : (s : State) → IsSoundState s → IsSoundState (after s head_line)
+head_sound s h = record {
+  few_roles = (let few = h.few_roles in omega arith);
+  few_kinds = (let few = h.few_kinds in omega arith);
+  few_processes = h.few_processes;
+  group = tt;
+  kind_roles = tt;
+  network = h.network;
+  few_edges = h.few_edges;
+}
+
+pub done_sound : (s : State) → IsSoundState s → IsSoundState (after s done_line)
+done_sound s h = record {
+  few_roles = (let few = h.few_roles in omega arith);
+  few_kinds = (let few = h.few_kinds in omega arith);
+  few_processes = h.few_processes;
+  group = tt;
+  kind_roles = tt;
+  network = h.network;
+  few_edges = h.few_edges;
+}
+
 -- a role is opened
 pub role_opens : (s : State) (name role_name : List ℕ) (names : List (List ℕ)) → IsSoundState s → IsFree (NameStands (role_names s.parts.roles) 16 name) → names ≡ [] → IsSoundState (record { parts = s.parts; group = in_locals role_name names })
 role_opens s name role_name names sound free none = record {
@@ -105,7 +128,7 @@ role_opens s name role_name names sound free none = record {
   few_edges = sound.few_edges;
 }
 
-role_within : (roles : List RoleParts) (name : List ℕ) → Contains (role_names roles) name → number_in (role_names roles) name < length roles
+pub role_within : (roles : List RoleParts) (name : List ℕ) → Contains (role_names roles) name → number_in (role_names roles) name < length roles
 role_within roles name there = let lt = number_within (role_names roles) name there in omega (arith, length-map roles (λ (r : RoleParts). r.name))
 
 -- a kind is opened

@@ -51,7 +51,7 @@ kind_end_free rs k small cause h = small h.1
 abbrev Opened : List ℕ → ℕ → ℕ → List Form → Group
 Opened n p q clauses = in_kind (record { name = n; role_a = p; role_b = q; clauses = clauses })
 
-role_named : (rs : List RoleParts) (k : ℕ) → All IsNamedRole rs → k < length rs → IsNamedRole (role_at rs k)
+pub role_named : (rs : List RoleParts) (k : ℕ) → All IsNamedRole rs → k < length rs → IsNamedRole (role_at rs k)
 role_named rs k named lt = named k (record { name = []; locals = []; start = 0; arcs = [] }) lt
 
 clauses_go : (rs : List RoleParts) (ks : List PairSpec) (n : List ℕ) (p q : ℕ) (front back : List Form) → IsNamedRole (role_at rs p) → IsNamedRole (role_at rs q) → All (IsReadable (role_at rs p).locals (role_at rs q).locals) back

@@ -2,13 +2,14 @@ pub mod Canonical
 pub mod CanonicalSigns
 pub mod CauseRows
 pub mod Clauses
+pub mod ClausesOver
 pub mod ClosureCount
 pub mod Crowded
 pub mod EdgeCount
 pub mod EdgeFits
 pub mod EdgeTables
-pub mod GraphKept
 pub mod GraphAgain
+pub mod GraphKept
 pub mod ItemLaws
 pub mod Judged
 pub mod Kept
@@ -26,7 +27,10 @@ pub mod ReadTakes
 pub mod ReadingRules
 pub mod RoleNames
 pub mod RolesAgain
+pub mod SignRows
 pub mod SpecTexts
 pub mod Spelled
 pub mod TextLaws
 pub mod TokenLaws
+pub mod ValueKept
+pub mod Weights

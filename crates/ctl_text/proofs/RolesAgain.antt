@@ -9,8 +9,8 @@ use Rattle.pair_structure.specs.declared.side.LocalArc.{LocalArc}
 use Rattle.pair_structure.specs.Name.{IsName}
 use Rattle.pair_structure.specs.Role.{RoleParts, JoinsTwo, HasArc, HasArcFrom}
 use Rattle.ctl_form.specs.declared.pair_spec.PairSpec.{PairSpec}
-use Rattle.ctl_text.specs.declared.network.Process.{Process}
-use Rattle.ctl_text.specs.declared.network.Edge.{Edge}
+use Rattle.interconnection.specs.declared.parts.Process.{Process}
+use Rattle.interconnection.specs.declared.parts.Edge.{Edge}
 use Rattle.ctl_text.specs.declared.cause.TextCause.{TextCause}
 use Rattle.ctl_text.specs.Cause.{NameStands, UseStands, ArcStands, RoleEndStands}
 use Rattle.ctl_text.specs.FormulaText.{name_at}

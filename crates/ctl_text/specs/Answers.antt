@@ -1,17 +1,8 @@
 -- What reading a text answers.
-use Rattle.std.specs.Prelude.{ℕ, ◌≡◌, List}
-use Rattle.ctl_text.specs.declared.read.Spec.{Spec}
+use Rattle.std.specs.Prelude.{ℕ, List}
 use Rattle.ctl_text.specs.declared.cause.TextFault.{TextFault}
 use Rattle.ctl_text.specs.declared.cause.TextFault.TheVariants.{At, Memory}
-use Rattle.ctl_text.specs.Value.{SpecParts, kind_ends}
 use Rattle.ctl_text.specs.Text.{IsRefused}
-
-abbrev pub spec_of : Spec → SpecParts
-spec_of spec = record { roles = spec.network.roles; kinds = spec.kinds.items; processes = spec.network.processes; edges = spec.network.edges }
-
--- the network has the ends of these kinds
-abbrev pub HasEnds : Spec → Type 0
-HasEnds spec = spec.network.ends ≡ kind_ends spec.kinds.items
 
 -- want of memory, or the first bad line and its lowest cause
 abbrev pub IsRefusal : List ℕ → TextFault → Type 0

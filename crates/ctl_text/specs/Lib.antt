@@ -9,6 +9,7 @@ pub mod ItemReading
 pub mod Judged
 pub mod Lines
 pub mod Long
+pub mod Made
 pub mod Required
 pub mod Sign
 pub mod Sound

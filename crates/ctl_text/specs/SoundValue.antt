@@ -5,8 +5,10 @@ use Rattle.pair_structure.specs.Role.{RoleParts, IsRole}
 use Rattle.ctl_form.specs.declared.pair_spec.PairSpec.{PairSpec}
 use Rattle.ctl_form.specs.Form.{Form}
 use Rattle.ctl_form.specs.Kind.{role_at}
-use Rattle.ctl_text.specs.declared.network.Process.{Process}
-use Rattle.ctl_text.specs.declared.network.Edge.{Edge}
+use Rattle.interconnection.specs.declared.parts.Process.{Process}
+use Rattle.interconnection.specs.declared.parts.Edge.{Edge}
+use Rattle.interconnection.specs.Graph.{degree_of}
+use Rattle.interconnection.specs.Network.{AreLawful}
 use Rattle.ctl_text.specs.Canonical.{IsOver}
 use Rattle.ctl_text.specs.Cause.{AreOfKind}
 use Rattle.ctl_text.specs.FormulaText.{Names, formula_text}
@@ -15,7 +17,7 @@ use Rattle.ctl_text.specs.Required.{IsClosureOver}
 use Rattle.ctl_text.specs.SpecText.{spec_text}
 use Rattle.ctl_text.specs.Text.{IsSpecText}
 use Rattle.ctl_text.specs.Token.{tokens_of}
-use Rattle.ctl_text.specs.Value.{SpecParts, role_names, kind_names, process_names, degree_of}
+use Rattle.ctl_text.specs.Value.{SpecParts, role_names, kind_names, kind_ends, process_names}
 
 -- each name differs from those behind it
 abbrev pub Differ : List (List ℕ) → Type 0
@@ -42,32 +44,17 @@ pub record IsNamedProcess (count : ℕ) (p : Process) : Type 0 where
   pub name : IsName p.name
   pub role : p.role < count
 
--- an edge between two processes of its kind's roles
-pub record IsEdgeOf (processes : List Process) (kinds : List PairSpec) (e : Edge) : Type 0 where
-  pub a : e.a < length processes
-  pub b : e.b < length processes
-  pub kind : e.kind < length kinds
-  pub differ : e.a ≢ e.b
-  pub of_kind : AreOfKind processes kinds e.a e.b e.kind
-
--- both edges are between the same processes
-abbrev pub JoinSame : Edge → Edge → Type 0
-JoinSame x y = ((x.a ≡ y.a) × (x.b ≡ y.b)) ⊎ ((x.a ≡ y.b) × (x.b ≡ y.a))
-
+-- all that a specification keeps that is read of a text
 pub record IsSoundValue (v : SpecParts) : Type 0 where
   pub roles : All IsNamedRole v.roles
   pub roles_differ : Differ (role_names v.roles)
-  pub few_roles : length v.roles ≤ 16
   pub kinds : All (IsNamedKind v.roles) v.kinds
   pub kinds_differ : Differ (kind_names v.kinds)
-  pub few_kinds : length v.kinds ≤ 16
   pub processes : All (IsNamedProcess (length v.roles)) v.processes
   pub processes_differ : Differ (process_names v.processes)
-  pub few_processes : length v.processes ≤ 1024
-  pub edges : All (IsEdgeOf v.processes v.kinds) v.edges
-  pub edges_differ : AllPairs (λ (x y : Edge). JoinSame x y → ⊥) v.edges
+  pub network : AreLawful v.roles (kind_ends v.kinds) v.processes v.edges
   pub few_beside : (k : ℕ) → degree_of v.edges k ≤ 32
 
--- the canonical text of such a specification is a text of it
+-- each value that some bytes are a text of has a canonical text, and that is a text of the same value
 abbrev pub CanonicalIsText : Type 0
-CanonicalIsText = (v : SpecParts) → IsSoundValue v → IsSpecText (spec_text v) v
+CanonicalIsText = (bytes : List ℕ) (v : SpecParts) → IsSpecText bytes v → IsSpecText (spec_text v) v

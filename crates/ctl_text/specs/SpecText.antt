@@ -6,8 +6,8 @@ use Rattle.pair_structure.specs.Role.{RoleParts}
 use Rattle.ctl_form.specs.declared.pair_spec.PairSpec.{PairSpec}
 use Rattle.ctl_form.specs.Form.{Form}
 use Rattle.ctl_form.specs.Kind.{role_at}
-use Rattle.ctl_text.specs.declared.network.Process.{Process}
-use Rattle.ctl_text.specs.declared.network.Edge.{Edge}
+use Rattle.interconnection.specs.declared.parts.Process.{Process}
+use Rattle.interconnection.specs.declared.parts.Edge.{Edge}
 use Rattle.ctl_text.specs.FormulaText.{Names, name_at, formula_text}
 use Rattle.ctl_text.specs.Item.{Said, head_line, role_line, local_line, start_line, arc_line, kind_line, end_line, process_line, edge_line, done_line, words_for}
 use Rattle.ctl_text.specs.Value.{SpecParts, kind_at, process_at}

@@ -5,6 +5,7 @@ use Rattle.pair_structure.specs.Role.{RoleParts}
 use Rattle.ctl_form.specs.declared.pair_spec.PairSpec.{PairSpec}
 use Rattle.interconnection.specs.declared.parts.Process.{Process}
 use Rattle.interconnection.specs.declared.parts.Edge.{Edge}
+use Rattle.interconnection.specs.Network.{NetworkParts}
 
 -- roles, kinds of pairs, processes and edges, each numbered by its place
 pub record SpecParts : Type 0 where
@@ -22,6 +23,10 @@ kind_names = map (λ k. k.name)
 -- the numbers of the two roles of each kind
 abbrev pub kind_ends : List PairSpec → List (ℕ × ℕ)
 kind_ends = map (λ k. (k.role_a, k.role_b))
+
+-- the network of a specification: kind k of it has the two roles of kind k
+abbrev pub network_of : SpecParts → NetworkParts
+network_of v = record { roles = v.roles; ends = kind_ends v.kinds; processes = v.processes; edges = v.edges }
 
 abbrev pub process_names : List Process → List (List ℕ)
 process_names = map (λ p. p.name)

@@ -2,8 +2,8 @@ ghost use Rattle.std.specs.Prelude.{◌≡◌, ◌↔◌, ◌≤◌, ◌++◌, �
 ghost use Rattle.interconnection.specs.Graph.{degree_of};
 ghost use Rattle.ctl_text.specs.Value.{AreJoined};
 
-use interconnection::Edge;
 use crate::beside::Beside;
+use interconnection::Edge;
 use std::alloc::{AllocError, Global};
 use std::marker::Model;
 

@@ -8,25 +8,26 @@ ghost use Rattle.ctl_text.specs.SpecText.{line_for, ended, local_text, arc_text,
 ghost use Rattle.ctl_text.specs.Value.{process_at, kind_at};
 
 use crate::formula_writer::{write_formula, write_local};
-use crate::{Edge, Process};
+use crate::spec::Spec;
 use ctl_form::{Formula, PairSpec};
+use interconnection::{Edge, Process};
 use pair_structure::{LocalArc, Memory, Name, Role};
 use std::alloc::{AllocError, Global};
 
 /// Appends the canonical text of a specification, and nothing where memory runs out. Linear in the text.
-pub fn write_spec(
-    alloc: Global,
-    roles: &[Role],
-    kinds: &[PairSpec],
-    processes: &[Process],
-    edges: &[Edge],
-    into: &mut Vec<u8>,
-) -> Result<(), Memory>
-    ensures written { OnOk result (into.new.items ≡ into.old.items ++ spec_text (record { roles = roles.now; kinds = kinds.now; processes = processes.now; edges = edges.now })) }
+pub fn write_spec(alloc: Global, spec: &Spec, into: &mut Vec<u8>) -> Result<(), Memory>
+    ensures written { OnOk result (into.new.items ≡ into.old.items ++ spec_text spec.now) }
     ensures kept { OnErr result (into.new.items ≡ into.old.items) }
 {
+    let network = spec.network();
     let mut text = Vec::new(alloc);
-    write_lines(roles, kinds, processes, edges, &mut text)?;
+    write_lines(
+        network.roles(),
+        spec.kinds(),
+        network.processes(),
+        network.edges(),
+        &mut text,
+    )?;
     into.extend_from_slice(&text)?;
     Ok(())
 }

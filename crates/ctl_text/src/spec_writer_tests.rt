@@ -17,14 +17,7 @@ fn check(rt: &impl Abort, alloc: Global, text: &str, canonical: &str) -> Result<
     let wanted = canonical.replace(alloc, "/", "\n")?;
     let spec = read_spec(alloc, bytes.as_str().as_bytes())?;
     let mut written = Vec::new(alloc);
-    write_spec(
-        alloc,
-        &spec.roles,
-        &spec.kinds,
-        &spec.processes,
-        &spec.edges,
-        &mut written,
-    )?;
+    write_spec(alloc, &spec, &mut written)?;
     assert!(rt; written.as_slice() == wanted.as_str().as_bytes(), "{text}");
     Ok(())
 }
