@@ -22,6 +22,7 @@ pub mod Lowest
 pub mod NameBytes
 pub mod Named
 pub mod Options
+pub mod Places
 pub mod ReadAgain
 pub mod ReadTakes
 pub mod ReadingRules

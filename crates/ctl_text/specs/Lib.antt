@@ -10,6 +10,7 @@ pub mod Judged
 pub mod Lines
 pub mod Long
 pub mod Made
+pub mod ProcessNumbers
 pub mod Required
 pub mod Sign
 pub mod Sound

@@ -265,13 +265,13 @@ fn process_added(
     let Reader {
         roles,
         kinds,
-        mut processes,
+        processes,
         edges,
         place: _before,
     } = reader;
     let name = name_of(alloc, name)?;
     let role = role_number(&roles, role) as u8;
-    processes.push(Process { name, role })?;
+    let processes = processes.with(alloc, Process { name, role })?;
     Ok(Reader {
         roles,
         kinds,

@@ -1,23 +1,29 @@
-ghost use Rattle.std.specs.Prelude.{◌≡◌, ◌↔◌, ◌<◌, ◌++◌, ◌∷◌, [], IsTrue, IfSome, OnOk, Any, length, position};
+ghost use Rattle.std.specs.Prelude.{◌≡◌, ◌<◌, ◌++◌, ◌∷◌, [], IfSome, IfOk, OnOk, length, position};
 ghost use Rattle.std.specs.Str.{bytes_eq};
+ghost use Rattle.ctl_text.specs.ProcessNumbers.{IsNumbered};
 
 use interconnection::Process;
 use std::alloc::{AllocError, Global};
+use std::collections::BTreeMap;
 use std::marker::Model;
 
 /// The processes that are declared so far, to be found by their names.
 #[derive(Drop)]
 pub(crate) struct Processes {
     list: Vec<Process>,
+    numbers: BTreeMap<Vec<u8>, usize>,
 }
 
 impl Model for Processes {
     ghost use Rattle.std.specs.Prelude.{List};
     ghost use Rattle.interconnection.specs.declared.parts.Process.{Process};
+    ghost use Rattle.ctl_text.specs.ProcessNumbers.{AreNumbers};
 
     ghost Value = { List Process };
 
     ghost view = { λ p. p.list.items };
+
+    ghost invariant = { λ p. AreNumbers p.list.items p.numbers.entries };
 }
 
 impl Processes {
@@ -26,6 +32,7 @@ impl Processes {
     {
         Processes {
             list: Vec::new(alloc),
+            numbers: BTreeMap::new(alloc),
         }
     }
 
@@ -35,11 +42,17 @@ impl Processes {
         &self.list
     }
 
-    pub(crate) fn push(&mut self, process: Process) -> Result<(), AllocError>
-        ensures { OnOk result (self.new ≡ self.old ++ process ∷ []) }
+    /// The processes with one more.
+    pub(crate) fn with(self, alloc: Global, process: Process) -> Result<Processes, AllocError>
+        ensures { IfOk result (λ made. made ≡ self ++ process ∷ []) }
     {
-        self.list.push(process)?;
-        Ok(())
+        let Processes {
+            mut list,
+            mut numbers,
+        } = self;
+        number_in(alloc, &mut numbers, process.name.as_str().as_bytes(), list.len())?;
+        list.push(process)?;
+        Ok(Processes { list, numbers })
     }
 
     pub(crate) fn into_vec(self) -> Vec<Process>
@@ -48,20 +61,29 @@ impl Processes {
         self.list
     }
 
-    /// The number of the process of this name.
+    /// The number of the first process of this name.
     pub(crate) fn find(&self, name: &[u8]) -> Option<usize>
         ensures number { result ≡ position (λ p. bytes_eq p.name name.now) self.now }
         ensures within { IfSome result (λ n. n < length self.now) }
     {
-        find_in(&self.list, name)
+        self.numbers.get(name).copied()
     }
 }
 
-fn find_in(processes: &[Process], name: &[u8]) -> Option<usize>
-    ensures number { result ≡ position (λ p. bytes_eq p.name name.now) processes.now }
-    ensures within { IfSome result (λ n. n < length processes.now) }
+/// Gives the name this number, if it has none.
+fn number_in(
+    alloc: Global,
+    numbers: &mut BTreeMap<Vec<u8>, usize>,
+    name: &[u8],
+    number: usize,
+) -> Result<(), AllocError>
+    ensures { OnOk result (IsNumbered numbers.old.entries name.now number numbers.new.entries) }
 {
-    processes
-        .iter()
-        .position(|process| process.name.as_str().as_bytes() == name)
+    if numbers.contains_key(name) {
+        return Ok(());
+    }
+    let mut key = Vec::with_capacity(alloc, name.len())?;
+    key.extend_from_slice(name)?;
+    numbers.insert(key, number)?;
+    Ok(())
 }

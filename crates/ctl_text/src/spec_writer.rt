@@ -5,6 +5,7 @@ ghost use Rattle.ctl_form.specs.Kind.{role_at};
 ghost use Rattle.ctl_text.specs.FormulaText.{name_at};
 ghost use Rattle.ctl_text.specs.Item.{head_line, role_line, start_line, kind_line, end_line, done_line};
 ghost use Rattle.ctl_text.specs.SpecText.{line_for, ended, local_text, arc_text, free_text, role_text, require_text, kind_lines_over, kind_text, process_text, edge_text, spec_text};
+ghost use Rattle.ctl_text.specs.Text.{IsSpecText};
 ghost use Rattle.ctl_text.specs.Value.{process_at, kind_at};
 
 use crate::formula_writer::{write_formula, write_local};
@@ -14,9 +15,10 @@ use interconnection::{Edge, Process};
 use pair_structure::{LocalArc, Memory, Name, Role};
 use std::alloc::{AllocError, Global};
 
-/// Appends the canonical text of a specification, and nothing where memory runs out. Linear in the text.
+/// Appends the canonical text of a specification, and nothing where memory runs out. What is appended is read again as an equal specification. Linear in the text.
 pub fn write_spec(alloc: Global, spec: &Spec, into: &mut Vec<u8>) -> Result<(), Memory>
     ensures written { OnOk result (into.new.items ≡ into.old.items ++ spec_text spec.now) }
+    ensures text { OnOk result (IsSpecText (spec_text spec.now) spec.now) }
     ensures kept { OnErr result (into.new.items ≡ into.old.items) }
 {
     let network = spec.network();
