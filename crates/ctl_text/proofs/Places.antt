@@ -58,10 +58,10 @@ numbered old new name key number same none here keeps other = at (bytes_eq name 
 place_after : (a n : ℕ) (t : Bool) → a ≤ n → cond (nat_lt (cond (a == n) (n + cond t 0 1) a) (n + 1)) (Some (cond (a == n) (n + cond t 0 1) a)) None ≡ or_number (cond (nat_lt a n) (Some a) None) t n
 place_after a n t le = elim (cases_lt a n) [
   | inl lt ↦ (
-    let below : nat_lt a n ≡ true = grind (arith, nat_tests) in
-    let apart : (a == n) ≡ false = grind (arith, nat_tests) in
-    let more : nat_lt a (n + 1) ≡ true = grind (arith, nat_tests) in rw (apart, below, more) refl
-  )
+      let below : nat_lt a n ≡ true = grind (arith, nat_tests) in
+      let apart : (a == n) ≡ false = grind (arith, nat_tests) in
+      let more : nat_lt a (n + 1) ≡ true = grind (arith, nat_tests) in rw (apart, below, more) refl
+      )
   | inr ge ↦ (let same : n ≡ a = omega arith in rw same (last a t))
 ]
   where

@@ -50,7 +50,12 @@ impl Processes {
             mut list,
             mut numbers,
         } = self;
-        number_in(alloc, &mut numbers, process.name.as_str().as_bytes(), list.len())?;
+        number_in(
+            alloc,
+            &mut numbers,
+            process.name.as_str().as_bytes(),
+            list.len(),
+        )?;
         list.push(process)?;
         Ok(Processes { list, numbers })
     }

@@ -44,6 +44,9 @@ pairs 1|2 BadLine
 pairs 1/done|0 read
 pairs 1/# caf\u{e9}/done|2 NotText
 pairs 1/done\r|2 NotText
+role r\r|1 NotText
+pairs 1/done/# \u{80}|3 NotText
+require true|1 BadHead
 pairs\u{0} 1|1 NotText
 pairs  1/role r/start L|3 BadLine
 pairs 1/role 1|2 BadLine
@@ -66,10 +69,13 @@ pairs 1/done/ # ok/ |0 read
 ^/kind k r r/require true)|10 BadLine
 ^/kind k r r/end/kind k r s|11 UnknownName
 %/process p r|13 Twice
-%/edge p p j|13 UnknownName
 %/edge p p k|13 SelfEdge
 %/edge p q k/edge q p k|14 EdgeTwice
-^/role s/local L/local M/start L/arc L M/arc M L/end/kind k r s/end/process p r/process q r/edge p q k|20 RoleMismatch";
+%/edge p q k/edge p q k|14 EdgeTwice
+%/edge p p j|13 UnknownName
+^/role s/local L/local M/start L/arc L M/arc M L/end/kind k r s/end/process p r/process q r/edge p q k|20 RoleMismatch
+^/role s/local L/local M/start L/arc L M/arc M L/end/kind k r s/end/process p r/edge p p k|19 SelfEdge
+^/role s/local L/local M/start L/arc L M/arc M L/end/kind k r s/end/process p r/process q s/edge p q k/done|0 read";
 
 /// What the reader says of the bytes: `0 read`, or the line and its cause.
 fn told(alloc: Global, bytes: &[u8]) -> Result<String, Fail> {
