@@ -1,6 +1,10 @@
+pub mod Commands
 pub mod Edges
 pub mod Filters
+pub mod Neighbours
 pub mod Pairs
+pub mod Permissions
 pub mod Runs
+pub mod Setting
 pub mod Sides
 pub mod Starts

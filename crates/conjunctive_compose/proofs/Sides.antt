@@ -48,3 +48,10 @@ opposite_twice B = refl
 pub part_across : (side : Side) (label : ℕ × ℕ) → part (opposite_side side) label ≡ part (opposite side) label
 part_across A label = refl
 part_across B label = refl
+
+-- a process is on one side of an edge
+pub one_side : (edge : Edge) (k : ℕ) (s t : Side) → edge.a ≢ edge.b → end_of edge s ≡ k → end_of edge t ≡ k → s ≡ t
+one_side edge k A A differ e f = refl
+one_side edge k A B differ e f = absurd (differ (e ∙ sym f))
+one_side edge k B A differ e f = absurd (differ (f ∙ sym e))
+one_side edge k B B differ e f = refl

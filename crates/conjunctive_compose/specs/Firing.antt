@@ -62,6 +62,10 @@ fired sys w wish = record {
   shared = map (value_after sys w wish) (range_with_len 0 (length w.shared));
 }
 
+-- the whole state with the values that the firing sets, before the process takes the arc
+abbrev pub with_values : SystemParts → WholeParts → Wish → WholeParts
+with_values sys w wish = record { locals = w.locals; shared = map (value_after sys w wish) (range_with_len 0 (length w.shared)) }
+
 -- neighbour j does not permit the arc
 abbrev pub Blocks : SystemParts → WholeParts → Wish → ℕ → Type 0
 Blocks sys w wish j = (e : ℕ) × (side : Side) × (e < edge_count sys) × IsOn sys wish.process side e × (end_of (edge_at sys e) (opposite side) ≡ j) × (Permits sys w side wish.arc e → ⊥)

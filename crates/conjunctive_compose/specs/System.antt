@@ -59,6 +59,10 @@ side_on edge k = cond (edge.a == k) (Some A) (cond (edge.b == k) (Some B) None)
 abbrev pub IsOn : SystemParts → ℕ → Side → ℕ → Type 0
 IsOn sys k side e = end_of (edge_at sys e) side ≡ k
 
+-- edge e is one of process k's
+abbrev pub Joins : SystemParts → ℕ → ℕ → Type 0
+Joins sys e k = (side : Side) × IsOn sys k side e
+
 -- the two roles of a kind
 abbrev pub role_a : NetworkParts → ℕ → RoleParts
 role_a net kind = role_numbered net.roles (ends_of net.ends kind).0
@@ -72,10 +76,13 @@ pub record HasStructures (net : NetworkParts) (structures : List Structure) : Ty
   pub over : (kind : ℕ) → kind < length net.ends → IsOver (role_a net kind) (role_b net kind) (structure_of structures kind)
   pub few : (kind : ℕ) → kind < length net.ends → length (structure_of structures kind).states < 2 ^ 32
 
--- the commands of the structures, kind by kind
-pub record HasCommands (net : NetworkParts) (structures : List Structure) (lists : List Lists) : Type 0 where
-  pub one_each : length lists ≡ length net.ends
-  pub commands : (kind : ℕ) → kind < length net.ends → IsSkeleton (role_a net kind) (role_b net kind) (structure_of structures kind) (slice_index_or lists kind no_lists)
+-- the commands of the first n structures, kind by kind
+pub record HasCommandsBelow (n : ℕ) (net : NetworkParts) (structures : List Structure) (lists : List Lists) : Type 0 where
+  pub one_each : length lists ≡ n
+  pub commands : (kind : ℕ) → kind < n → IsSkeleton (role_a net kind) (role_b net kind) (structure_of structures kind) (slice_index_or lists kind no_lists)
+
+abbrev pub HasCommands : NetworkParts → List Structure → List Lists → Type 0
+HasCommands net = HasCommandsBelow (length net.ends) net
 
 pub record IsSystem (sys : SystemParts) : Type 0 where
   pub network : IsNetwork sys.network

@@ -23,6 +23,11 @@ label_on sys w e = (local_at w (edge_at sys e).a, local_at w (edge_at sys e).b)
 abbrev pub HasPair : SystemParts → WholeParts → ℕ → ℕ → Type 0
 HasPair sys w e s = IsStateAt (structure_at sys e).states (label_on sys w e) (value_at w e) s
 
+-- as many local states and values as the system has processes and edges
+pub record HasSizes (sys : SystemParts) (w : WholeParts) : Type 0 where
+  pub locals : length w.locals ≡ process_count sys
+  pub values : length w.shared ≡ edge_count sys
+
 -- a local state of its role for each process, a value for each edge, and a pair state of each edge
 pub record IsProper (sys : SystemParts) (w : WholeParts) : Type 0 where
   pub locals : length w.locals ≡ process_count sys

@@ -2,10 +2,16 @@
 #![tactic(auto)]
 
 mod laws;
+mod making;
+mod step;
+mod system;
+mod whole;
 mod wish;
 
 pub use laws::{
     firing_keeps_pairs, near_decides, one_pair_state, others_stay, projection_is_path,
     reachable_is_proper, run_grows, start_is_proper,
 };
+pub use system::System;
+pub use whole::Whole;
 pub use wish::{PairMove, StepAnswer, Wish};
