@@ -7,4 +7,5 @@ pub mod Permissions
 pub mod Runs
 pub mod Setting
 pub mod Sides
+pub mod Spelled
 pub mod Starts
