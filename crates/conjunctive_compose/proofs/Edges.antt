@@ -38,6 +38,9 @@ edge_lawful sys e system lt =
     no_edge : Edge
     no_edge = record { a = 0; b = 0; kind = 0 }
 
+pub edge_kind : (sys : SystemParts) (e : ℕ) → IsSystem sys → e < edge_count sys → (edge_at sys e).kind < length sys.network.ends
+edge_kind sys e system lt = (All-get_or (IsInRange sys.network.ends sys.network.processes) sys.network.edges e (record { a = 0; b = 0; kind = 0 }) lt system.network.in_range).2
+
 -- the role of a process is one
 pub role_lawful : (sys : SystemParts) (k : ℕ) → IsSystem sys → k < process_count sys → IsRole (role_of sys k)
 role_lawful sys k system lt = system.roles (role_number sys.network.processes k) (All-get_or (HasRole sys.network.roles) sys.network.processes k nobody lt system.network.own_roles)

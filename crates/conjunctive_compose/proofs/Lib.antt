@@ -4,6 +4,7 @@ pub mod Filters
 pub mod Neighbours
 pub mod Pairs
 pub mod Permissions
+pub mod Replies
 pub mod Runs
 pub mod Setting
 pub mod Sides

@@ -1,5 +1,5 @@
 -- Whether an edge permits, as the code reads it.
-use Rattle.std.proofs.Common.{ℕ, ◌≡◌, ◌<◌, inl, inr, Option, Some, None, List, [], length, get_or, arith, refl, sym, ◌∙◌, ap, subst, true, Contains}
+use Rattle.std.proofs.Common.{ℕ, ◌≡◌, ◌<◌, Option, Some, None, [], length, get_or, arith, refl, sym, ap, subst, true, Contains}
 use Rattle.std.specs.Prelude.{Bool, IfNone, IfSome, IsTrue, is_some, ◌↔◌}
 use Rattle.std.proofs.lemmas.Bool.{eq-eqb}
 use Rattle.std.proofs.lemmas.List.Elements.{All-contains, Contains-get_or, filter_passes}
@@ -9,7 +9,7 @@ use Rattle.skeleton_extract.specs.Commands.{commands_of}
 use Rattle.skeleton_extract.specs.Permission.{is_permitted, no_command, picked}
 use Rattle.interconnection.specs.declared.parts.Beside.{Beside}
 use Rattle.interconnection.specs.Graph.{IsBeside}
-use Rattle.conjunctive_compose.specs.System.{IsOn, IsSystem, SystemParts, edge_at, edge_count, lists_at}
+use Rattle.conjunctive_compose.specs.System.{IsOn, IsSystem, SystemParts, edge_at, lists_at}
 use Rattle.conjunctive_compose.specs.Whole.{WholeParts, value_at}
 use Rattle.conjunctive_compose.specs.Firing.{Permits, across, permitted}
 use Rattle.conjunctive_compose.proofs.Edges.{edge_lawful}

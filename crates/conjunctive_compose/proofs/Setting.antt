@@ -10,7 +10,7 @@ use Rattle.skeleton_extract.specs.Permission.{picked}
 use Rattle.interconnection.specs.declared.parts.Beside.{Beside}
 use Rattle.interconnection.specs.Graph.{IsBeside, end_of, opposite}
 use Rattle.conjunctive_compose.specs.declared.wish.Wish.{Wish}
-use Rattle.conjunctive_compose.specs.System.{SystemParts, IsOn, IsSystem, edge_at, edge_count, side_on}
+use Rattle.conjunctive_compose.specs.System.{SystemParts, IsOn, IsSystem, edge_at, side_on}
 use Rattle.conjunctive_compose.specs.Whole.{HasSizes, WholeParts, value_at}
 use Rattle.conjunctive_compose.specs.Firing.{AllPermit, permitted, value_after, value_by, with_values}
 use Rattle.conjunctive_compose.proofs.Edges.{edge_lawful}

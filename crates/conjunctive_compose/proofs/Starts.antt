@@ -1,14 +1,12 @@
 -- The start.
-use Rattle.std.proofs.Common.{ℕ, ◌≡◌, ◌<◌, length, arith, sym, ◌∙◌, refl}
+use Rattle.std.proofs.Common.{ℕ, ◌≡◌, ◌<◌, arith, sym, ◌∙◌}
 use Rattle.std.proofs.lemmas.Option.{slice_get_within, get_or_from_slice_get}
 use Rattle.std.proofs.lemmas.List.{get_or-replicate, length-replicate}
 use Rattle.std.proofs.lemmas.List.FromFn.{get_or-map-range_with_len, length-map-range_with_len}
-use Rattle.pair_structure.specs.Ordinal.{ordinal_of}
-use Rattle.pair_structure.specs.Structure.{label_at}
 use Rattle.conjunctive_compose.specs.System.{SystemParts, IsSystem, edge_at, edge_count, process_count, role_of, structure_at}
-use Rattle.conjunctive_compose.specs.Whole.{IsProper, HasPair, label_on, local_at, start_local, start_of, value_at}
+use Rattle.conjunctive_compose.specs.Whole.{HasPair, label_on, local_at, start_local, start_of, value_at}
 use Rattle.conjunctive_compose.specs.Laws.{IsStart}
-use Rattle.conjunctive_compose.proofs.Edges.{IsLawfulEdge, edge_lawful, role_lawful}
+use Rattle.conjunctive_compose.proofs.Edges.{edge_lawful, role_lawful}
 use Rattle.conjunctive_compose.proofs.Pairs.{same_pairs}
 
 pub local_at_start : (sys : SystemParts) (k : ℕ) → k < process_count sys → local_at (start_of sys) k ≡ (role_of sys k).start

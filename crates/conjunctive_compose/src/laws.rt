@@ -1,4 +1,5 @@
 ghost use Rattle.conjunctive_compose.specs.Laws.{FiringKeepsPairs, NearDecides, OnePairState, OthersStay, ProjectionIsPath, ReachableIsProper, RunGrows, StartIsProper};
+ghost use Rattle.conjunctive_compose.specs.Order.{ToldStays};
 
 /// The start is proper, and on each edge it has pair state 0.
 pub fn start_is_proper()
@@ -38,4 +39,10 @@ pub fn near_decides()
 /// A run with a wish that moves appended is a run.
 pub fn run_grows()
     ensures { RunGrows }
+{}
+
+/// What a caller was told still holds, in its order, where entries of others, its own next entry, a place that it loads now, or a look that
+/// shows enough are appended.
+pub fn told_stays()
+    ensures { ToldStays }
 {}

@@ -12,7 +12,7 @@ mod wish;
 
 pub use laws::{
     firing_keeps_pairs, near_decides, one_pair_state, others_stay, projection_is_path,
-    reachable_is_proper, run_grows, start_is_proper,
+    reachable_is_proper, run_grows, start_is_proper, told_stays,
 };
 pub use system::System;
 pub use whole::Whole;

@@ -3,7 +3,7 @@ ghost use Rattle.std.specs.List.{range_with_len};
 ghost use Rattle.pair_structure.specs.Structure.{IsOver};
 ghost use Rattle.conjunctive_compose.specs.Firing.{Fits, WishFits, arc_of};
 ghost use Rattle.conjunctive_compose.specs.System.{HasStructures, IsSystem, edge_count, lists_at, process_count, role_a, role_b, role_of, structure_of};
-ghost use Rattle.conjunctive_compose.specs.Whole.{IsProper, start_local, start_of};
+ghost use Rattle.conjunctive_compose.specs.Whole.{HasPair, IsProper, start_local, start_of};
 
 use crate::making::{skeletons_of, structure_copies};
 use crate::{Whole, Wish};
@@ -98,6 +98,20 @@ impl System {
     {
         (wish.process as usize) < self.network.processes().len()
             && (wish.arc as usize) < self.role(wish.process).arcs().len()
+    }
+
+    /// The state of an edge's pair in a whole state. Logarithmic in the states of its kind.
+    pub fn pair_state(&self, w: &Whole, edge: u32) -> u64
+        requires proper { IsProper self.now w.now }
+        requires within { edge < edge_count self.now }
+        ensures { HasPair self.now w.now edge result }
+    {
+        let ends = self.network().edges()[edge as usize];
+        let structure = self.structure(ends.kind);
+        match structure.state_at(w.local(ends.a), w.local(ends.b), w.value(edge)) {
+            Some(state) => state,
+            None => unreachable!(),
+        }
     }
 
     fn role(&self, process: u32) -> &Role

@@ -259,3 +259,28 @@ fn permits_by_edge(rt: HostRuntime) -> Result<(), Fail> {
     assert_eq!(rt; permitted(&system, &w, 2, 0, 1), true);
     Ok(())
 }
+
+/// The state of an edge's pair, where the edge exists.
+fn pair_state(system: &System, w: &Whole, edge: u32) -> Option<u64>
+    requires { IsProper system.now w.now }
+{
+    if edge as usize >= system.network().edges().len() {
+        return None;
+    }
+    Some(system.pair_state(w, edge))
+}
+
+#[test]
+fn tells_the_pair_state(rt: HostRuntime) -> Result<(), Fail> {
+    let system = system(rt.alloc(), "L R", TURN, 2, "0-1")?;
+    let mut w = system.start(rt.alloc())?;
+    let wish = wish("1/0/0")?;
+    if !system.fits(wish) || system.network().ends().is_empty() {
+        return Err(Fail::from("no such arc"));
+    }
+    assert_eq!(rt; pair_state(&system, &w, 0), Some(0));
+    system.step(&mut w, wish);
+    assert_eq!(rt; pair_state(&system, &w, 0), Some(1));
+    assert_eq!(rt; system.structure(0).moves().len(), 4);
+    Ok(())
+}

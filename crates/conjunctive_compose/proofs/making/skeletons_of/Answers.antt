@@ -1,5 +1,4 @@
-use Rattle.std.proofs.Common.{ℕ, ◌+◌, sym, subst, List}
-use Rattle.skeleton_extract.specs.Commands.{Lists}
+use Rattle.std.proofs.Common.{◌+◌, sym, subst}
 use Rattle.conjunctive_compose.specs.System.{HasCommandsBelow}
 use Rattle.conjunctive_compose.proofs.Commands.{commands_more}
 use Rattle.conjunctive_compose.proofs.making.skeletons_of.Goals as goal

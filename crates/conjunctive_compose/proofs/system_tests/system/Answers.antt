@@ -1,4 +1,4 @@
-use Rattle.std.proofs.Common.{ℕ, ◌≡◌, length, ap, arith}
+use Rattle.std.proofs.Common.{ℕ, length, ap, arith}
 use Rattle.conjunctive_compose.proofs.Spelled.{one_structure}
 use Rattle.conjunctive_compose.proofs.system_tests.system.Goals as goal
 

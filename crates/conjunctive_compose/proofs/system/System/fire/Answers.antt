@@ -1,6 +1,4 @@
-use Rattle.std.proofs.Common.{◌≡◌, sym, subst, ◌∙◌}
-use Rattle.conjunctive_compose.specs.Firing.{Moves, fired}
-use Rattle.conjunctive_compose.specs.Whole.{IsProper, WholeParts}
+use Rattle.conjunctive_compose.specs.Firing.{Moves}
 use Rattle.conjunctive_compose.proofs.Pairs.{fired_proper}
 use Rattle.conjunctive_compose.proofs.system.System.fire.Goals as goal
 

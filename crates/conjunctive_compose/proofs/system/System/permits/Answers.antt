@@ -1,4 +1,3 @@
-use Rattle.std.proofs.Common.{◌≡◌, ap, ◌∙◌, IsTrue, ◌↔◌}
 use Rattle.conjunctive_compose.proofs.Permissions.{told_on_side}
 use Rattle.conjunctive_compose.proofs.system.System.permits.Goals as goal
 

@@ -1,4 +1,4 @@
-use Rattle.std.proofs.Common.{ℕ, ◌≡◌, sym, subst, List, length, replicate, ap, ◌∙◌}
+use Rattle.std.proofs.Common.{ℕ, sym, subst, List, length, replicate, ap, ◌∙◌}
 use Rattle.interconnection.specs.declared.parts.Edge.{Edge}
 use Rattle.conjunctive_compose.specs.System.{IsSystem, SystemParts, edge_count}
 use Rattle.conjunctive_compose.specs.Whole.{IsProper, start_of}
