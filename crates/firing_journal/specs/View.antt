@@ -30,3 +30,8 @@ grown entries next = entries ++ record { number = length entries; caller = next.
 abbrev pub place_after : List Entry → Option (ℕ × Wish) → Place
 place_after entries None = after_done entries
 place_after entries (Some next) = among_entries (grown entries next)
+
+-- an entry to append, if there is one, fits the system
+abbrev pub IsFitting : SystemParts → Option (ℕ × Wish) → Type 0
+IsFitting sys None = Unit {0}
+IsFitting sys (Some next) = IsKnown sys next.0 next.1.process next.1.arc

@@ -1,23 +1,22 @@
-ghost use Rattle.std.specs.Prelude.{◌≡◌, ◌↔◌, [], IfErr, IfNone, IfOk, IfSome, IsTrue, OnOk};
+ghost use Rattle.std.specs.Prelude.{◌≡◌, [], IfErr, IfNone, IfOk, IfSome, OnOk};
 ghost use Rattle.ctl_text.specs.Cause.{IsLowest};
 ghost use Rattle.strict_text.specs.Lines.{IsStrict};
 ghost use Rattle.strict_text.specs.View.{line_of};
-ghost use Rattle.strict_text.specs.Words.{words_of};
 ghost use Rattle.firing_journal.specs.Cause.{Stands, Takes};
 ghost use Rattle.firing_journal.specs.Place.{among_entries, before_head};
-ghost use Rattle.firing_journal.specs.Said.{Says, head_line, words_for};
-ghost use Rattle.firing_journal.specs.View.{IsKnown, place_after, said, wish_of_numbers};
+ghost use Rattle.firing_journal.specs.Said.{Says};
+ghost use Rattle.firing_journal.specs.View.{IsFitting, IsKnown, place_after, said, wish_of_numbers};
 
 use crate::Journal;
-use crate::item::{Item, item_of};
+use crate::item::{Item, is_head, item_of};
 use conjunctive_compose::{System, Wish};
 use ctl_text::TextCause;
 use strict_text::{Line, is_strict};
 
 /// Whether the first line is the head, or its lowest cause.
 pub(crate) fn judge_head(system: &System, line: Line<'_>) -> Result<(), TextCause>
-    ensures taken { OnOk result (Takes system.now before_head (line_of line) (among_entries [])) }
-    ensures refused { IfErr result (IsLowest (Stands system.now before_head (line_of line))) }
+    ensures taken { OnOk result (Takes system.now before_head (line_of line.entry) (among_entries [])) }
+    ensures refused { IfErr result (IsLowest (Stands system.now before_head (line_of line.entry))) }
 {
     if !is_strict(line.bytes) {
         return Err(TextCause::NotText);
@@ -31,20 +30,15 @@ pub(crate) fn judge_head(system: &System, line: Line<'_>) -> Result<(), TextCaus
     Ok(())
 }
 
-fn is_head(bytes: &[u8]) -> bool
-    ensures { IsTrue result ↔ (words_of bytes.now ≡ words_for head_line) }
-{
-    bytes == b"journal 1".as_slice()
-}
-
 /// The caller and the wish that a line below these entries appends, None where it is `done`; or its lowest cause.
 pub(crate) fn judge(
     system: &System,
     journal: &Journal,
     line: Line<'_>,
 ) -> Result<Option<(u32, Wish)>, TextCause>
-    ensures taken { IfOk result (λ next. Takes system.now (among_entries journal.now) (line_of line) (place_after journal.now next)) }
-    ensures refused { IfErr result (IsLowest (Stands system.now (among_entries journal.now) (line_of line))) }
+    ensures fits { IfOk result (IsFitting system.now) }
+    ensures taken { IfOk result (λ next. Takes system.now (among_entries journal.now) (line_of line.entry) (place_after journal.now next)) }
+    ensures refused { IfErr result (IsLowest (Stands system.now (among_entries journal.now) (line_of line.entry))) }
 {
     if !is_strict(line.bytes) {
         return Err(TextCause::NotText);
@@ -64,8 +58,9 @@ fn judge_item(
 ) -> Result<Option<(u32, Wish)>, TextCause>
     requires strict { IsStrict (line_of line).bytes }
     requires says { Says (line_of line) (said item) }
-    ensures taken { IfOk result (λ next. Takes system.now (among_entries journal.now) (line_of line) (place_after journal.now next)) }
-    ensures refused { IfErr result (IsLowest (Stands system.now (among_entries journal.now) (line_of line))) }
+    ensures fits { IfOk result (IsFitting system.now) }
+    ensures taken { IfOk result (λ next. Takes system.now (among_entries journal.now) (line_of line.entry) (place_after journal.now next)) }
+    ensures refused { IfErr result (IsLowest (Stands system.now (among_entries journal.now) (line_of line.entry))) }
 {
     match item {
         Item::Head => Err(TextCause::BadLine),
@@ -93,7 +88,13 @@ fn known(system: &System, caller: u64, process: u64, arc: u64, pick: u64) -> Opt
     ensures some { IfSome result (λ x. (x.0 ≡ caller) × (x.1 ≡ wish_of_numbers process arc pick) × IsKnown system.now caller process arc) }
     ensures none { IfNone result (IsKnown system.now caller process arc → ⊥) }
 {
-    if caller > 63 || process >= 1024 || arc >= 128 {
+    if caller > 63 {
+        return None;
+    }
+    if process >= system.network().processes().len() as u64 {
+        return None;
+    }
+    if arc >= 128 {
         return None;
     }
     let wish = Wish {

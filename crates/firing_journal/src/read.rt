@@ -21,6 +21,14 @@ pub fn read_journal(alloc: Global, system: &System, bytes: &[u8]) -> Result<Jour
     ensures refused { IfErr result (IsRefusal system.now bytes.now) }
     ensures only { (v : List Entry) → IsJournalText system.now bytes.now v → MatchResult result (λ j. j ≡ v) (λ fault. fault ≡ Memory) }
 {
+    read_text(alloc, system, bytes)
+}
+
+fn read_text(alloc: Global, system: &System, bytes: &[u8]) -> Result<Journal, TextFault>
+    ensures text { IfOk result (IsJournalText system.now bytes.now) }
+    ensures fits { IfOk result (JournalFits system.now) }
+    ensures refused { IfErr result (IsRefusal system.now bytes.now) }
+{
     if bytes.is_empty() {
         return Err(TextFault::At {
             line: 1,
@@ -46,11 +54,10 @@ fn read_entries(alloc: Global, system: &System, bytes: &[u8]) -> Result<Journal,
     while !rest.is_empty() {
         let (front, behind) = cut_line(rest);
         match judge(system, &journal, front) {
-            Ok(Some((caller, wish))) => {
-                if journal.push(caller, wish).is_err() {
-                    return Err(TextFault::Memory);
-                }
-            }
+            Ok(Some((caller, wish))) => match journal.push(caller, wish) {
+                Ok(()) => {}
+                Err(_) => return Err(TextFault::Memory),
+            },
             Ok(None) => return Ok(journal),
             Err(what) => return Err(TextFault::At { line, what }),
         }
