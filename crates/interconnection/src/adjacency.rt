@@ -61,6 +61,13 @@ impl Adjacency {
         Ok(Adjacency { each })
     }
 
+    pub(crate) fn copy(&self, alloc: Global) -> Result<Adjacency, AllocError>
+        ensures { IfOk result (λ a. a ≡ self.now) }
+    {
+        let each = neighbourhood_copies(alloc, &self.each)?;
+        Ok(Adjacency { each })
+    }
+
     pub(crate) fn beside(&self, k: usize) -> &[Beside]
         requires { k < length self.now }
         ensures { result.now ≡ (around_at self.now k).beside }
@@ -139,4 +146,17 @@ impl Adjacency {
         }
         None
     }
+}
+
+fn neighbourhood_copies(
+    alloc: Global,
+    each: &[Neighbourhood],
+) -> Result<Vec<Neighbourhood>, AllocError>
+    ensures { IfOk result (λ copies. copies.items ≡ each.now) }
+{
+    let mut copies = Vec::with_capacity(alloc, each.len())?;
+    for around in each {
+        copies.push(around.copy(alloc)?)?;
+    }
+    Ok(copies)
 }

@@ -2,6 +2,7 @@
 #![tactic(auto)]
 
 mod adjacency;
+mod copies;
 mod edge_check;
 mod fault;
 mod laws;

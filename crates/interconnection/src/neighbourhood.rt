@@ -35,6 +35,15 @@ impl Neighbourhood {
         })
     }
 
+    pub(crate) fn copy(&self, alloc: Global) -> Result<Neighbourhood, AllocError>
+        ensures { IfOk result (λ n. n ≡ self.now) }
+    {
+        Ok(Neighbourhood {
+            beside: Vec::from_slice(alloc, &self.beside)?,
+            plan: Vec::from_slice(alloc, &self.plan)?,
+        })
+    }
+
     pub(crate) fn beside(&self) -> &[Beside]
         ensures { result.now ≡ self.now.beside }
     {

@@ -1,14 +1,16 @@
-ghost use Rattle.std.specs.Prelude.{◌≡◌, ◌≢◌, ◌<◌, ◌^◌, length, IfOk, IfErr};
+ghost use Rattle.std.specs.Prelude.{◌≡◌, ◌≢◌, ◌<◌, ◌^◌, length, All, IfOk, IfErr};
+ghost use Rattle.pair_structure.specs.Role.{IsRole};
 ghost use Rattle.interconnection.specs.Around.{AreAround};
 ghost use Rattle.interconnection.specs.Graph.{AreNeighbours, IsLockPlan, degree_of};
 ghost use Rattle.interconnection.specs.Network.{AreLawful, IsNetwork};
 ghost use Rattle.interconnection.specs.NetworkFault.{IsFirstNetworkFault};
 
 use crate::adjacency::Adjacency;
+use crate::copies::{process_copies, role_copies};
 use crate::edge_check::{edge_fault, first_mismatch};
 use crate::part_check::part_fault;
 use crate::{Beside, Edge, NetworkFault, Process};
-use pair_structure::Role;
+use pair_structure::{Memory, Role};
 use std::alloc::Global;
 use std::marker::Model;
 
@@ -60,6 +62,22 @@ impl Network {
             }),
             Err(fault) => Err(fault),
         }
+    }
+
+    /// An equal network. Linear in its parts.
+    pub fn copy(&self, alloc: Global) -> Result<Network, Memory>
+        ensures copy { IfOk result (λ n. n ≡ self.now) }
+        ensures roles { IfOk result (λ n. All IsRole self.now.roles) }
+    {
+        let roles = role_copies(alloc, &self.roles)?;
+        let processes = process_copies(alloc, &self.processes)?;
+        Ok(Network {
+            roles,
+            ends: Vec::from_slice(alloc, &self.ends)?,
+            processes,
+            edges: Vec::from_slice(alloc, &self.edges)?,
+            adjacency: self.adjacency.copy(alloc)?,
+        })
     }
 
     /// The roles, in the order of their numbers.

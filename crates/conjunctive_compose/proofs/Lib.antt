@@ -1,0 +1,12 @@
+pub mod Commands
+pub mod Edges
+pub mod Filters
+pub mod Neighbours
+pub mod Pairs
+pub mod Permissions
+pub mod Replies
+pub mod Runs
+pub mod Setting
+pub mod Sides
+pub mod Spelled
+pub mod Starts

@@ -1,0 +1,103 @@
+-- How a line is judged: before the head, and below entries.
+use Rattle.std.proofs.Common.{ℕ, ◌≡◌, ◌≢◌, ◌≤◌, ◌∷◌, ◌++◌, List, [], length, refl, sym, ap, ◌∙◌, subst, true}
+use Rattle.std.specs.Prelude.{Option, Some, None, codes}
+use Rattle.ctl_text.specs.declared.cause.TextCause.{TextCause}
+use Rattle.ctl_text.specs.declared.cause.TextCause.TheVariants.{NotText, BadHead, BadLine, UnknownName}
+use Rattle.ctl_text.specs.Cause.{IsLowest, IsFree}
+use Rattle.strict_text.specs.Lines.{Line, IsStrict}
+use Rattle.strict_text.specs.Words.{words_of}
+use Rattle.conjunctive_compose.specs.declared.wish.Wish.{Wish}
+use Rattle.conjunctive_compose.specs.System.{SystemParts}
+use Rattle.firing_journal.specs.declared.journal.Entry.{Entry}
+use Rattle.firing_journal.specs.Journal.{EntryFits}
+use Rattle.firing_journal.specs.Said.{Said, Says, SaysWords, head_line, entry_line, done_line, words_for}
+use Rattle.firing_journal.specs.Place.{Place, MayStand, after, before_head, among_entries, after_done}
+use Rattle.firing_journal.specs.Cause.{IsUnknown, MaySay, Stands, Takes, Leaves}
+use Rattle.firing_journal.specs.View.{IsKnown, grown, place_after, wish_of_numbers}
+use Rattle.firing_journal.proofs.Causes.{not_text, bad_head, bad_line, unknown_name, none_stands}
+use Rattle.firing_journal.proofs.Words.{bytes_of_words, says_head, says_once}
+
+abbrev NotStrict : Line → Type 0
+NotStrict line = IsStrict line.bytes → ⊥
+
+abbrev NoHead : Place → Line → Type 0
+NoHead place line = (place ≡ before_head) × (words_of line.bytes ≢ words_for head_line)
+
+abbrev NothingStands : Place → Line → Type 0
+NothingStands place line = (said : Said) → MaySay place line said → ⊥
+
+abbrev SomeUnknown : SystemParts → Place → Line → Type 0
+SomeUnknown sys place line = (said : Said) × MaySay place line said × IsUnknown sys said
+
+pub line_not_text : (sys : SystemParts) (place : Place) (line : Line) → (IsStrict line.bytes → ⊥) → IsLowest (Stands sys place line) NotText
+line_not_text sys place line bad = not_text (NotStrict line) (NoHead place line) (NothingStands place line) (SomeUnknown sys place line) bad
+
+head_alone : (said : Said) → MayStand before_head said → said ≡ head_line
+head_alone head_line may = refl
+head_alone (entry_line entry) may = absurd may
+head_alone done_line may = absurd may
+
+pub head_wrong : (sys : SystemParts) (line : Line) → IsStrict line.bytes → (line.bytes ≡ codes "journal 1" → ⊥) → IsLowest (Stands sys before_head line) BadHead
+head_wrong sys line strict other = bad_head (NotStrict line) (NoHead before_head line) (NothingStands before_head line) (SomeUnknown sys before_head line) (λ bad. bad strict) (refl, λ is. other (bytes_of_words line.bytes (words_for head_line) is))
+
+pub head_not_ended : (sys : SystemParts) (line : Line) → IsStrict line.bytes → line.bytes ≡ codes "journal 1" → (line.is_ended ≡ true → ⊥) → IsLowest (Stands sys before_head line) BadLine
+head_not_ended sys line strict is open' =
+    bad_line (NotStrict line) (NoHead before_head line) (NothingStands before_head line) (SomeUnknown sys before_head line) (λ bad. bad strict) (λ no. no.1 (says_head line.bytes is).words_are) (λ said may. open' may.says.ended)
+
+unknown_head : (sys : SystemParts) (said : Said) → said ≡ head_line → IsUnknown sys said → ⊥
+unknown_head sys said is unknown = let none : IsUnknown sys head_line = subst (IsUnknown sys) is unknown in none
+
+pub head_taken : (sys : SystemParts) (line : Line) → IsStrict line.bytes → line.bytes ≡ codes "journal 1" → line.is_ended ≡ true → Takes sys before_head line (among_entries [])
+head_taken sys line strict is ended =
+    let says : Says line head_line = record { ended = ended; words = says_head line.bytes is } in
+    let may : MaySay before_head line head_line = record { says = says; may = tt } in
+    record {
+      free = none_stands (NotStrict line) (NoHead before_head line) (NothingStands before_head line) (SomeUnknown sys before_head line) (λ bad. bad strict) (λ no. no.1 says.words.words_are) (λ none. none head_line may) (λ some. unknown_head sys some.0 (head_alone some.0 some.1.may) some.2);
+      leaves = (head_line, record { may = may; next_is = refl });
+    }
+
+not_before : (entries : List Entry) → among_entries entries ≡ before_head → ⊥
+not_before entries is = cc
+
+pub nothing_said : (sys : SystemParts) (entries : List Entry) (line : Line) → IsStrict line.bytes → ((said : Said) → Says line said → ⊥) → IsLowest (Stands sys (among_entries entries) line) BadLine
+nothing_said sys entries line strict none =
+    bad_line (NotStrict line) (NoHead (among_entries entries) line) (NothingStands (among_entries entries) line) (SomeUnknown sys (among_entries entries) line) (λ bad. bad strict) (λ no. not_before entries no.0) (λ said may. none said may.says)
+
+-- the line says what may not stand there
+pub misplaced : (sys : SystemParts) (entries : List Entry) (line : Line) (said : Said) → IsStrict line.bytes → Says line said → (MayStand (among_entries entries) said → ⊥) → IsLowest (Stands sys (among_entries entries) line) BadLine
+misplaced sys entries line said strict says not =
+    bad_line (NotStrict line) (NoHead (among_entries entries) line) (NothingStands (among_entries entries) line) (SomeUnknown sys (among_entries entries) line) (λ bad. bad strict) (λ no. not_before entries no.0)
+    (λ other may. not (subst (MayStand (among_entries entries)) (says_once line other said may.says says) may.may))
+
+-- the line says an entry that may stand there, but not for this system
+pub unknown : (sys : SystemParts) (entries : List Entry) (line : Line) (entry : Entry) → IsStrict line.bytes → Says line (entry_line entry) → entry.number ≡ length entries → (EntryFits sys entry → ⊥) → IsLowest (Stands sys (among_entries entries) line) UnknownName
+unknown sys entries line entry strict says place not =
+    let may : MaySay (among_entries entries) line (entry_line entry) = record { says = says; may = place } in
+    unknown_name (NotStrict line) (NoHead (among_entries entries) line) (NothingStands (among_entries entries) line) (SomeUnknown sys (among_entries entries) line) (λ bad. bad strict) (λ no. not_before entries no.0) (λ none. none (entry_line entry) may) (entry_line entry, may, not)
+
+-- the line says what may stand there, and nothing in it is unknown
+pub taken : (sys : SystemParts) (entries : List Entry) (line : Line) (said : Said) → IsStrict line.bytes → Says line said → MayStand (among_entries entries) said → (IsUnknown sys said → ⊥) → Takes sys (among_entries entries) line (after (among_entries entries) said)
+taken sys entries line said strict says stands known =
+    let may : MaySay (among_entries entries) line said = record { says = says; may = stands } in
+    record {
+      free = none_stands (NotStrict line) (NoHead (among_entries entries) line) (NothingStands (among_entries entries) line) (SomeUnknown sys (among_entries entries) line) (λ bad. bad strict) (λ no. not_before entries no.0) (λ none. none said may)
+          (λ some. known (subst (IsUnknown sys) (says_once line some.0 said some.1.says says) some.2));
+      leaves = (said, record { may = may; next_is = refl });
+    }
+
+pub done_taken : (sys : SystemParts) (entries : List Entry) (line : Line) → IsStrict line.bytes → Says line done_line → Takes sys (among_entries entries) line (place_after entries None)
+done_taken sys entries line strict says = taken sys entries line done_line strict says tt (λ none. none)
+
+-- an entry of numbers that the system knows
+pub entry_fits : (sys : SystemParts) (number caller process arc pick : ℕ) → IsKnown sys caller process arc → EntryFits sys (record { number = number; caller = caller; wish = wish_of_numbers process arc pick })
+entry_fits sys number caller process arc pick known = record { wish = known.fits; caller = known.caller_in }
+
+pub entry_known : (sys : SystemParts) (number caller process arc pick : ℕ) → EntryFits sys (record { number = number; caller = caller; wish = wish_of_numbers process arc pick }) → IsKnown sys caller process arc
+entry_known sys number caller process arc pick fits = record { caller_in = fits.caller; fits = fits.wish }
+
+pub entry_taken : (sys : SystemParts) (entries : List Entry) (line : Line) (number caller process arc pick : ℕ) (next : ℕ × Wish) → IsStrict line.bytes → Says line (entry_line (record { number = number; caller = caller; wish = wish_of_numbers process arc pick }))
+    → number ≡ length entries → next.0 ≡ caller → next.1 ≡ wish_of_numbers process arc pick → IsKnown sys caller process arc → Takes sys (among_entries entries) line (place_after entries (Some next))
+entry_taken sys entries line number caller process arc pick next strict says place c w known =
+    let e : Entry = record { number = number; caller = caller; wish = wish_of_numbers process arc pick } in
+    let there : ◌≡◌ {A = Entry} e (record { number = length entries; caller = next.0; wish = next.1 }) = cc in
+    subst (λ (x : Entry). Takes sys (among_entries entries) line (among_entries (entries ++ x ∷ []))) there (taken sys entries line (entry_line e) strict says place (λ not. not (entry_fits sys number caller process arc pick known)))

@@ -1,0 +1,8 @@
+pub mod Causes
+pub mod Judged
+pub mod Numbered
+pub mod Projections
+pub mod Replays
+pub mod Texts
+pub mod Words
+pub mod Written

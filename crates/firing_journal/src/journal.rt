@@ -1,0 +1,80 @@
+ghost use Rattle.std.specs.Prelude.{◌≡◌, ◌↔◌, ◌∷◌, ◌++◌, [], length, IsTrue, OnErr, OnOk};
+ghost use Rattle.conjunctive_compose.specs.Firing.{WishFits};
+ghost use Rattle.firing_journal.specs.Journal.{AreNumbered, EntryFits, JournalFits};
+
+use conjunctive_compose::{System, Wish};
+use pair_structure::Memory;
+use std::alloc::Global;
+use std::marker::Model;
+
+/// One firing: its number in the run, the caller that made it, and its wish.
+#[derive(Clone, Copy, Debug, PartialEq, Eq)]
+pub struct Entry {
+    pub number: u64,
+    pub caller: u32,
+    pub wish: Wish,
+}
+
+/// The firings of a run in their order; the entry at place i has number i.
+#[derive(Debug, Drop)]
+pub struct Journal {
+    entries: Vec<Entry>,
+}
+
+impl Model for Journal {
+    ghost use Rattle.std.specs.Prelude.{List};
+    ghost use Rattle.firing_journal.specs.declared.journal.Entry.{Entry};
+    ghost use Rattle.firing_journal.specs.Journal.{AreNumbered};
+
+    ghost Value = { List Entry };
+
+    ghost view = { λ j. j.entries.items };
+
+    ghost invariant = { λ j. AreNumbered j.entries.items };
+}
+
+impl Journal {
+    /// A journal without entries. Takes no memory.
+    pub fn new(alloc: Global) -> Journal
+        ensures { result ≡ [] }
+    {
+        Journal {
+            entries: Vec::new(alloc),
+        }
+    }
+
+    /// The entries in their order.
+    pub fn entries(&self) -> &[Entry]
+        ensures entries { result.now ≡ self.now }
+        ensures numbered { AreNumbered self.now }
+    {
+        &self.entries
+    }
+
+    /// Appends the caller's firing under the next number.
+    pub fn push(&mut self, caller: u32, wish: Wish) -> Result<(), Memory>
+        ensures pushed { OnOk result (self.new ≡ self.old ++ record { number = length self.old; caller = caller; wish = wish } ∷ []) }
+        ensures unchanged { OnErr result (self.new ≡ self.old) }
+    {
+        let number = self.entries.len() as u64;
+        self.entries.push(Entry {
+            number,
+            caller,
+            wish,
+        })?;
+        Ok(())
+    }
+
+    /// Whether each wish fits the system and each caller is at most 63. Linear in the entries.
+    pub fn fits(&self, system: &System) -> bool
+        ensures { IsTrue result ↔ JournalFits system.now self.now }
+    {
+        self.entries().iter().all(|entry| entry_fits(system, entry))
+    }
+}
+
+fn entry_fits(system: &System, entry: &Entry) -> bool
+    ensures { IsTrue result ↔ EntryFits system.now entry.now }
+{
+    entry.caller <= 63 && system.fits(entry.wish)
+}

@@ -1,0 +1,4 @@
+pub mod LineLaws
+pub mod NumberLaws
+pub mod Positions
+pub mod WordLaws
