@@ -1,0 +1,6 @@
+pub mod AtState
+pub mod Closures
+pub mod Covers
+pub mod FullRows
+pub mod Labels
+pub mod Sets
