@@ -3,4 +3,7 @@ pub mod Closures
 pub mod Covers
 pub mod FullRows
 pub mod Labels
+pub mod Lowest
+pub mod Parts
 pub mod Sets
+pub mod Words

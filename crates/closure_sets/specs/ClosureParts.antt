@@ -46,3 +46,14 @@ pub record IsClosureParts (c : ClosureParts) : Type 0 where
   pub rooted : All (λ root. root < length c.parts) c.roots
   pub nexts : HasNexts c.parts (after c)
   pub moves : HasMoves c.parts (some_move c)
+
+-- some member has this part
+abbrev pub HasPart : List Part → Part → Type 0
+HasPart parts part = (n : ℕ) × (n < length parts) × (part_at parts n ≡ part)
+
+-- n is the next-time of this side of member i, where that is an until
+abbrev pub IsNextAt : List Part → Side → ℕ → ℕ → Type 0
+IsNextAt parts side i n = (f g : ℕ) (all weak : Bool) → part_at parts i ≡ Until all weak f g → IsNextOf parts all side i n
+
+abbrev pub AreNexts : List Part → Side → List ℕ → Type 0
+AreNexts parts side nexts = (i : ℕ) → i < length parts → IsNextAt parts side i (slice_index_or nexts i 0)

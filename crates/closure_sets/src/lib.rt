@@ -1,6 +1,10 @@
 //! Rows of a closure's members that cover what the states of a pair structure make true.
 #![tactic(auto)]
 
+mod closure;
 mod laws;
+mod row;
 
+pub use closure::Closure;
 pub use laws::{expansion_covers, expansion_is_full};
+pub use row::Row;
