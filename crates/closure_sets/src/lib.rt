@@ -2,9 +2,14 @@
 #![tactic(auto)]
 
 mod closure;
+mod found;
+mod expanding;
 mod laws;
+mod marks;
 mod row;
+mod ways;
 
 pub use closure::Closure;
+pub use expanding::full_rows;
 pub use laws::{expansion_covers, expansion_is_full};
 pub use row::Row;
