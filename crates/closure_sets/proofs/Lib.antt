@@ -4,6 +4,8 @@ pub mod Covers
 pub mod FullRows
 pub mod Labels
 pub mod Lowest
+pub mod MarkLaws
+pub mod NotedLaws
 pub mod Parts
 pub mod Sets
 pub mod Words

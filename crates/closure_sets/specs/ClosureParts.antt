@@ -44,6 +44,8 @@ HasMoves parts some_move = (truth : ℕ) × (truth < length parts) × (part_at p
 pub record IsClosureParts (c : ClosureParts) : Type 0 where
   pub numbering : IsNumbering c.parts
   pub rooted : All (λ root. root < length c.parts) c.roots
+  pub long_a : length c.after_a ≡ length c.parts
+  pub long_b : length c.after_b ≡ length c.parts
   pub nexts : HasNexts c.parts (after c)
   pub moves : HasMoves c.parts (some_move c)
 
@@ -56,4 +58,4 @@ abbrev pub IsNextAt : List Part → Side → ℕ → ℕ → Type 0
 IsNextAt parts side i n = (f g : ℕ) (all weak : Bool) → part_at parts i ≡ Until all weak f g → IsNextOf parts all side i n
 
 abbrev pub AreNexts : List Part → Side → List ℕ → Type 0
-AreNexts parts side nexts = (i : ℕ) → i < length parts → IsNextAt parts side i (slice_index_or nexts i 0)
+AreNexts parts side nexts = (length nexts ≡ length parts) × ((i : ℕ) → i < length parts → IsNextAt parts side i (slice_index_or nexts i 0))

@@ -4,4 +4,6 @@ pub mod Expansion
 pub mod Firsts
 pub mod Full
 pub mod Label
+pub mod Marks
 pub mod Row
+pub mod Ways

@@ -1,6 +1,6 @@
 ghost use Rattle.std.specs.Prelude.{◌≡◌, ◌<◌, ◌≤◌, ℕ, false, length, All, IfOk, MatchOption};
 ghost use Rattle.ctl_form.specs.Members.{part_at};
-ghost use Rattle.closure_sets.specs.ClosureParts.{ClosureParts, IsClosureParts, HasPart, IsNextOf, IsNextAt, AreNexts};
+ghost use Rattle.closure_sets.specs.ClosureParts.{ClosureParts, IsClosureParts, HasPart, IsNextOf, IsNextAt, AreNexts, after, some_move};
 ghost use Rattle.ctl_form.specs.declared.part.Part.TheVariants.{Yes};
 
 use ctl_form::{Normal, Part};
@@ -84,6 +84,29 @@ impl Closure {
             (λ n. (n < length self.now.parts) × (part_at self.now.parts n ≡ part)) }
     {
         find_in(&self.parts, part)
+    }
+
+    /// The next-time of this side of an until.
+    pub(crate) fn after(&self, side: Side, member: u32) -> u32
+        requires { member < length self.now.parts }
+        ensures { result ≡ after self.now side member }
+    {
+        match side {
+            Side::A => self.after_a[member as usize],
+            Side::B => self.after_b[member as usize],
+        }
+    }
+
+    /// EXs true.
+    pub(crate) fn some_move(&self, side: Side) -> u32
+        ensures same { result ≡ some_move self.now side }
+        ensures member { result < length self.now.parts }
+        ensures closure { IsClosureParts self.now }
+    {
+        match side {
+            Side::A => self.some_a,
+            Side::B => self.some_b,
+        }
     }
 }
 

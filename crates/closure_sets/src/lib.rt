@@ -3,7 +3,9 @@
 
 mod closure;
 mod laws;
+mod marks;
 mod row;
+mod ways;
 
 pub use closure::Closure;
 pub use laws::{expansion_covers, expansion_is_full};
