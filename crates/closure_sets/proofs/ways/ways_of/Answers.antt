@@ -1,4 +1,4 @@
-use Rattle.std.proofs.Common.{sym, ◌∙◌, ◌<◌, ◌≤◌, ℕ, arith}
+use Rattle.std.proofs.Common.{sym, ◌∙◌, ◌<◌, arith}
 use Rattle.pair_structure.specs.declared.side.Side.TheVariants.{A, B}
 use Rattle.ctl_form.specs.declared.part.Part.TheVariants.{Both, Either, Until}
 use Rattle.closure_sets.specs.ClosureParts.{count}
