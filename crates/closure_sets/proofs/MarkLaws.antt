@@ -1,5 +1,5 @@
 -- What is noted of a label, member by member.
-use Rattle.std.proofs.Common.{ℕ, zero, suc, ◌≡◌, ◌⊎◌, ◌<◌, ◌≤◌, ◌+◌, ◌++◌, inl, inr, Bool, true, false, not, cond, Option, Some, None, is_some, List, [], ◌∷◌, length, refl, subst, sym, ◌∙◌, ap, arith, slice_index_or, eqb, eqb-true, eq-eqb, length-append}
+use Rattle.std.proofs.Common.{ℕ, zero, suc, ◌≡◌, ◌<◌, ◌≤◌, ◌+◌, ◌++◌, Bool, true, false, cond, Option, None, is_some, List, [], ◌∷◌, length, refl, subst, sym, ◌∙◌, ap, arith, eqb, eqb-true, length-append}
 use Rattle.std.proofs.Math.Decide.{dec_lt}
 use Rattle.std.proofs.lemmas.List.{get_or_append_left, get_or_push}
 use Rattle.ctl_form.specs.Form.{Form}
@@ -7,13 +7,13 @@ use Rattle.ctl_form.specs.Members.{form_at, forms_of, form_of_part, IsBelow}
 use Rattle.ctl_form.specs.declared.part.Part.{Part}
 use Rattle.ctl_form.specs.declared.part.Part.TheVariants.{Yes, No, Lit, Both, Either, Next, Until}
 use Rattle.closure_sets.specs.ClosureParts.{ClosureParts, IsClosureParts, count}
-use Rattle.closure_sets.specs.Expansion.{lowest, or_last, is_shared, clashes}
+use Rattle.closure_sets.specs.Expansion.{lowest, is_shared, clashes}
 use Rattle.closure_sets.specs.Label.{part_of, form_of, value, wrong_of}
-use Rattle.closure_sets.specs.Marks.{AreMarks, AreValues, AreWrong, part_value, value_at}
+use Rattle.closure_sets.specs.Marks.{AreValues, AreWrong, part_value, value_at}
 use Rattle.closure_sets.specs.Row.{Members, add}
 use Rattle.ctl_form.proofs.MemberLaws.{below_up}
 use Rattle.closure_sets.proofs.Closures.{form_is}
-use Rattle.closure_sets.proofs.Sets.{add_same, add_keeps}
+use Rattle.closure_sets.proofs.Sets.{add_same}
 
 part_value_is : (label : ℕ × ℕ) (forms : List Form) (values : List (Option Bool)) (n : ℕ) → ((i : ℕ) → i < n → value_at values i ≡ value label (form_at forms i)) → (part : Part) → IsBelow n part → part_value label values part ≡ value label (form_of_part forms part)
 part_value_is label forms values n each Yes below = refl

@@ -1,6 +1,6 @@
 -- Rows noted one after another.
-use Rattle.std.proofs.Common.{◌≡◌, ◌⊎◌, inl, inr, List, [], ◌∷◌, ◌++◌, refl, subst, sym, ◌∙◌, ap}
-use Rattle.closure_sets.specs.Firsts.{Stands, IsNoted, AreNoted, AreFirsts}
+use Rattle.std.proofs.Common.{inl, inr, List, [], ◌∷◌, ◌++◌, refl, subst, sym}
+use Rattle.closure_sets.specs.Firsts.{Stands, IsNoted, AreNoted}
 use Rattle.closure_sets.specs.Full.{EachRow, Among}
 use Rattle.closure_sets.specs.Row.{Members}
 

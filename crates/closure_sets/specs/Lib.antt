@@ -5,6 +5,5 @@ pub mod Firsts
 pub mod Full
 pub mod Label
 pub mod Marks
-pub mod Found
 pub mod Row
 pub mod Ways

@@ -1,6 +1,5 @@
 -- What is noted of a label once, for all rows of an expansion.
 use Rattle.std.specs.Prelude.{ℕ, ◌≡◌, ◌<◌, Bool, true, false, not, Option, Some, None, List, length, slice_index_or}
-use Rattle.pair_structure.specs.declared.side.Side.{Side}
 use Rattle.ctl_form.specs.declared.part.Part.{Part}
 use Rattle.ctl_form.specs.declared.part.Part.TheVariants.{Yes, No, Lit, Both, Either, Next, Until}
 use Rattle.closure_sets.specs.ClosureParts.{ClosureParts, count}

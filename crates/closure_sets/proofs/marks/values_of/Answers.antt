@@ -1,4 +1,4 @@
-use Rattle.std.proofs.Common.{subst, ◌≡◌, ◌<◌, ℕ, length, arith}
+use Rattle.std.proofs.Common.{subst, ◌≡◌, ◌<◌, arith}
 use Rattle.closure_sets.specs.ClosureParts.{count}
 use Rattle.closure_sets.specs.Marks.{part_value}
 use Rattle.closure_sets.proofs.MarkLaws.{values_push}

@@ -1,4 +1,4 @@
-use Rattle.std.proofs.Common.{subst, ◌≡◌, ◌<◌, ◌∙◌, ap, ℕ, arith}
+use Rattle.std.proofs.Common.{◌∙◌, ap, arith}
 use Rattle.closure_sets.specs.Label.{is_wrong, wrong_of}
 use Rattle.closure_sets.specs.Row.{Members, set_of}
 use Rattle.closure_sets.proofs.MarkLaws.{marked_step}

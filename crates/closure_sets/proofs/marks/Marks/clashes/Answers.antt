@@ -1,5 +1,5 @@
-use Rattle.std.proofs.Common.{ap, ◌∙◌, subst, is_some, Option, ℕ, ◌≡◌}
-use Rattle.closure_sets.specs.Expansion.{clashes, lowest, is_shared}
+use Rattle.std.proofs.Common.{ap, ◌∙◌, is_some, Option, ℕ}
+use Rattle.closure_sets.specs.Expansion.{lowest, is_shared}
 use Rattle.closure_sets.specs.Row.{set_of}
 use Rattle.closure_sets.proofs.MarkLaws.{clashes_is}
 use Rattle.closure_sets.proofs.marks.Marks.clashes.Goals as goal
