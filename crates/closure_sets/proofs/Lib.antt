@@ -1,6 +1,7 @@
 pub mod AtState
 pub mod Closures
 pub mod Covers
+pub mod FoundLaws
 pub mod FullRows
 pub mod Labels
 pub mod Lowest

@@ -11,5 +11,6 @@ mod ways;
 
 pub use closure::Closure;
 pub use expanding::full_rows;
+pub use expanding::full_rows;
 pub use laws::{expansion_covers, expansion_is_full};
 pub use row::Row;
