@@ -11,6 +11,5 @@ mod ways;
 
 pub use closure::Closure;
 pub use expanding::full_rows;
-pub use expanding::full_rows;
 pub use laws::{expansion_covers, expansion_is_full};
 pub use row::Row;
