@@ -1,5 +1,5 @@
 -- The texts of arcs, one after another.
-use Rattle.std.proofs.Common.{ℕ, ◌≡◌, ◌<◌, ◌≤◌, ◌+◌, ◌++◌, ◌∷◌, [], List, length, get_or, take, arith, refl, ap, ◌∙◌, append_assoc, append-nil}
+use Rattle.std.proofs.Common.{ℕ, ◌≡◌, ◌<◌, ◌≤◌, ◌+◌, ◌++◌, ◌∷◌, [], List, length, get_or, take, arith, ap, ◌∙◌, append_assoc, append-nil}
 use Rattle.std.specs.List.{flat_map, zip}
 use Rattle.std.proofs.lemmas.Grind.{flat_map-append}
 use Rattle.std.proofs.lemmas.List.{take_all, take_more}
@@ -16,8 +16,8 @@ arcs_more own other arcs lists n d lt same =
     let within : n < length (zip arcs lists) = omega (arith, length-zip arcs lists) in
     let pair : get_or (zip arcs lists) n (d, []) ≡ (get_or arcs n d, list_at lists n) = get_or-zip arcs lists n (d, []) lt (omega (arith, same)) in
     ap (flat_map (arc_text own other)) (take_more (zip arcs lists) n (d, []) within)
-      ∙ flat_map-append (arc_text own other) (take n (zip arcs lists)) (get_or (zip arcs lists) n (d, []) ∷ [])
-      ∙ ap (λ text. flat_map (arc_text own other) (take n (zip arcs lists)) ++ text) (append-nil (arc_text own other (get_or (zip arcs lists) n (d, []))) ∙ ap (arc_text own other) pair)
+    ∙ flat_map-append (arc_text own other) (take n (zip arcs lists)) (get_or (zip arcs lists) n (d, []) ∷ [])
+    ∙ ap (λ text. flat_map (arc_text own other) (take n (zip arcs lists)) ++ text) (append-nil (arc_text own other (get_or (zip arcs lists) n (d, []))) ∙ ap (arc_text own other) pair)
 
 joined : (start so arc commands one two text : List ℕ) → one ≡ (start ++ so) ++ arc → two ≡ one ++ commands → text ≡ so ++ (arc ++ commands) → two ≡ start ++ text
 joined start so arc commands one two text p q r = rw (q, p, r) (simp append_assoc)

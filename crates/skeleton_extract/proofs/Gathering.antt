@@ -1,9 +1,9 @@
 -- Commands gathered move by move.
-use Rattle.std.proofs.Common.{ℕ, zero, suc, ◌≡◌, ◌<◌, ◌+◌, ◌⊎◌, ◌++◌, ◌∷◌, ◌==◌, ◌&&◌, ◌↔◌, Bool, true, false, [], List, length, get_or, take, Contains, arith, below_more, inl, inr, refl, sym, ap, subst, ◌∙◌, append-nil}
+use Rattle.std.proofs.Common.{ℕ, zero, suc, ◌≡◌, ◌<◌, ◌+◌, ◌++◌, ◌∷◌, ◌==◌, ◌&&◌, ◌↔◌, Bool, true, false, [], List, length, get_or, take, Contains, arith, below_more, inl, inr, refl, sym, ap, subst, ◌∙◌, append-nil}
 use Rattle.std.proofs.lemmas.Bool.{cases_eq}
 use Rattle.std.proofs.lemmas.Bool.Decides.{nat_tests}
 use Rattle.std.proofs.lemmas.List.{map-append, get_or_default, take_more}
-use Rattle.std.proofs.lemmas.List.Elements.{filter-append, All-contains, Contains-append_cases, Contains-append_left, Contains-append_right}
+use Rattle.std.proofs.lemmas.List.Elements.{filter-append, Contains-append_cases, Contains-append_right}
 use Rattle.pair_structure.specs.declared.side.LocalArc.{LocalArc}
 use Rattle.pair_structure.specs.declared.side.Move.{Move}
 use Rattle.pair_structure.specs.declared.side.Side.{Side}
@@ -101,7 +101,7 @@ pub AreGathered-passed : (states : List (ℕ × ℕ)) (moves : List Move) (side 
     → items ≡ moves → n < length items → ((get_or items n d).side ≡ side → ⊥) → then ≡ lists → AreGathered states (take n moves) side arcs lists → AreGathered states (take (n + 1) moves) side arcs then
 AreGathered-passed states moves side arcs items n d lists then items_are lt other then_is gathered =
     subst (λ moves. AreGathered states (take (n + 1) moves) side arcs then) items_are
-        (rw (take_more items n d lt, then_is) (AreGathered-over states (take n items) (get_or items n d) side arcs lists other (subst (λ moves. AreGathered states (take n moves) side arcs lists) (sym items_are) gathered)))
+    (rw (take_more items n d lt, then_is) (AreGathered-over states (take n items) (get_or items n d) side arcs lists other (subst (λ moves. AreGathered states (take n moves) side arcs lists) (sym items_are) gathered)))
 
 -- what is gathered comes from a move
 from_given : (states : List (ℕ × ℕ)) (side : Side) (arc : LocalArc) (moves : List Move) (c : Command) → Contains (given_on states side arc moves) c → (move : Move) × Contains moves move × (takes states side arc move ≡ true) × (command_of states move ≡ c)
@@ -153,7 +153,7 @@ IsCommand-given m side arc c = (λ has. command (from_given m.states side arc m.
     command (move, has, takes_it, is) =
         let ends = from_taken (is_same_side move.side side) (leaves_at m.states move) arc.from (comes_to m.states move) arc.to takes_it in
         subst (λ side. IsCommand m side arc c) (side_from_is_same move.side side ends.0)
-            (move.from, move.to, record { move = has; from = ends.1; to = ends.2; other = ap (λ (c : Command). c.other) is; x = ap (λ (c : Command). c.x) is; set = ap (λ (c : Command). c.set) is })
+        (move.from, move.to, record { move = has; from = ends.1; to = ends.2; other = ap (λ (c : Command). c.other) is; x = ap (λ (c : Command). c.x) is; set = ap (λ (c : Command). c.set) is })
 
     given : IsCommand m side arc c → Contains (given_on m.states side arc m.moves) c
     given (s, t, g) =

@@ -1,5 +1,5 @@
 -- A permitted command as a move, and moves from commands.
-use Rattle.std.proofs.Common.{ℕ, ◌≡◌, ◌<◌, ◌↔◌, List, length, refl, ap, sym, ◌∙◌, Contains}
+use Rattle.std.proofs.Common.{ℕ, ◌≡◌, ◌↔◌, List, refl, ap, sym, ◌∙◌, Contains}
 use Rattle.std.proofs.lemmas.List.Elements.{All-contains}
 use Rattle.pair_structure.specs.declared.side.LocalArc.{LocalArc}
 use Rattle.pair_structure.specs.declared.side.Side.{Side}

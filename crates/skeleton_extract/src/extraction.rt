@@ -12,12 +12,7 @@ use std::alloc::{AllocError, Global};
 
 /// The commands of the moves of a structure over the two roles. Two passes over the moves; moves times their logarithm, to put the
 /// commands of each arc in order.
-pub fn extract(
-    alloc: Global,
-    m: &PairStructure,
-    a: &Role,
-    b: &Role,
-) -> Result<Skeleton, Memory>
+pub fn extract(alloc: Global, m: &PairStructure, a: &Role, b: &Role) -> Result<Skeleton, Memory>
     requires { IsOver a.now b.now m.now }
     ensures { IfOk result (IsSkeleton a.now b.now m.now) }
 {

@@ -1,4 +1,4 @@
-ghost use Rattle.std.specs.Prelude.{◌≡◌, ◌++◌, length, OnErr, OnOk,};
+ghost use Rattle.std.specs.Prelude.{◌≡◌, ◌++◌, length, OnErr, OnOk};
 ghost use Rattle.std.specs.List.{flat_map};
 ghost use Rattle.skeleton_extract.specs.Commands.{HasLists};
 ghost use Rattle.skeleton_extract.specs.SkeletonText.{arc_line, arc_text, arcs_text, command_line, name_at, skeleton_text};

@@ -11,4 +11,4 @@ pub mod AllMoves
 pub mod Meaning
 pub mod Roles
 pub mod Solved
-pub mod NarrowKinds
+pub mod KindRoles

@@ -1,17 +1,18 @@
 -- One more kind is solved, or is the first that cannot be.
 use Rattle.std.proofs.Common.{ℕ, ◌≡◌, ◌<◌, ◌+◌, zero, suc, List, [], ◌∷◌, ◌++◌, length, get_or, take, map, All, ap, ◌∙◌, sym, subst, append_assoc, append-nil, arith, true}
-use Rattle.std.proofs.lemmas.List.{take_more, get_or_default, get_or-map, length-map, get_or-take, length-take-le}
+use Rattle.std.proofs.lemmas.List.{take_more, get_or_default, get_or-take, length-take-le}
 use Rattle.pair_structure.specs.Role.{RoleParts}
 use Rattle.pair_structure.specs.Structure.{Structure}
 use Rattle.ctl_form.specs.declared.formula.Formula.{Formula}
 use Rattle.ctl_form.specs.declared.pair_spec.PairSpec.{PairSpec}
 use Rattle.ctl_form.specs.Form.{Form, form_of}
 use Rattle.ctl_form.specs.Kind.{role_at, Satisfies, SatisfiesKind, Solves}
-use Rattle.skeleton_tool.specs.Answer.{kind_at, IsFirstUnsatisfiable}
+use Rattle.ctl_text.specs.Value.{kind_at}
+use Rattle.skeleton_tool.specs.Answer.{IsFirstUnsatisfiable}
 use Rattle.skeleton_tool.specs.Proposition.{is_plain}
-use Rattle.skeleton_tool.specs.Narrow.{IsNarrowKind}
 use Rattle.skeleton_tool.specs.SolutionText.{solved_kind_text, solved_kinds_text}
-use Rattle.skeleton_tool.specs.Solving.{AddsSolved, AddsOne}
+use Rattle.skeleton_tool.proofs.Lists.{All-unmap}
+use Rattle.skeleton_tool.specs.Solving.{IsForEngine, AddsSolved, AddsOne}
 
 abbrev text_in : List RoleParts → PairSpec → Structure → List ℕ
 text_in roles k m = solved_kind_text k.name (role_at roles k.role_a) (role_at roles k.role_b) m
@@ -60,10 +61,8 @@ first_unsatisfiable roles kinds i kind old mid lt is (ms, solves, text) none = r
         (u.0, subst (λ k. SatisfiesKind roles k u.0) (get_or-take i kinds j (record { name = []; role_a = 0; role_b = 0; clauses = [] }) below) u.1)
 
 -- a kind's clauses are plain, as formulas
-pub plain_clauses : (roles : List RoleParts) (kind : PairSpec) (forms : List Formula) → map form_of forms ≡ kind.clauses → IsNarrowKind roles kind → All (λ f. is_plain (form_of f) ≡ true) forms
-plain_clauses roles kind forms is narrow k d lt =
-    subst (λ (f : Form). is_plain f ≡ true) (get_or-map form_of forms k d (form_of d) lt)
-    (subst (λ (clauses : List Form). is_plain (get_or clauses k (form_of d)) ≡ true) (sym is) (narrow.clauses k (form_of d) (subst (λ (clauses : List Form). k < length clauses) is (rw length-map lt))).plain)
+pub plain_clauses : (roles : List RoleParts) (kind : PairSpec) (forms : List Formula) → map form_of forms ≡ kind.clauses → IsForEngine roles kind → All (λ f. is_plain (form_of f) ≡ true) forms
+plain_clauses roles kind forms is engine = All-unmap (λ (f : Form). is_plain f ≡ true) form_of forms (subst (λ (clauses : List Form). All (λ f. is_plain f ≡ true) clauses) (sym is) engine.plain)
 
 -- what is solved of two roles and some formulas is solved of the kind
 pub kind_satisfied : (roles : List RoleParts) (kind : PairSpec) (a b : RoleParts) (clauses : List Form) (m : Structure) → a ≡ role_at roles kind.role_a → b ≡ role_at roles kind.role_b → clauses ≡ kind.clauses → Satisfies a b clauses m → SatisfiesKind roles kind m

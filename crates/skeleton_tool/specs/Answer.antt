@@ -1,16 +1,19 @@
 -- What a call answers: a status, the text that belongs to it, and when it may come.
-use Rattle.std.specs.Prelude.{ℕ, ◌≡◌, ◌<◌, ◌≤◌, ◌⊎◌, Option, Some, None, IfSome, List, [], ◌++◌, codes, length, slice_index_or}
+use Rattle.std.specs.Prelude.{ℕ, ◌≡◌, ◌<◌, ◌≤◌, ◌⊎◌, Option, Some, None, IfSome, List, [], ◌++◌, codes, length}
 use Rattle.edge_io.specs.Counts.{Rose}
 use Rattle.edge_io.specs.Told.{file_named, HasLonger, Appends, AppendsPrefix}
 use Rattle.pair_structure.specs.Role.{RoleParts}
 use Rattle.pair_structure.specs.Structure.{Structure}
 use Rattle.ctl_form.specs.declared.pair_spec.PairSpec.{PairSpec}
 use Rattle.ctl_form.specs.Kind.{SatisfiesKind, Solves}
+use Rattle.ctl_text.specs.declared.cause.TextCause.{TextCause}
+use Rattle.ctl_text.specs.Value.{SpecParts, kind_at}
+use Rattle.ctl_text.specs.Text.{IsSpecText, IsRefused}
 use Rattle.skeleton_tool.specs.declared.status.Status.{Status}
 use Rattle.skeleton_tool.specs.declared.status.Status.TheVariants.{Done, Usage, Refused, Unsatisfiable, ReadFault, WriteFault, OutOfMemory}
 use Rattle.skeleton_tool.specs.Command.{synth, command_of, usage_text, spec_limit}
 use Rattle.skeleton_tool.specs.Status.{code_of}
-use Rattle.skeleton_tool.specs.Narrow.{IsNarrow}
+use Rattle.skeleton_tool.specs.Refusal.{ArePlain, refused_text, only_always_text}
 use Rattle.skeleton_tool.specs.SolutionText.{solution_text}
 
 -- what is known of the shelf before and after the call: its files, where they are told, and its two counts
@@ -31,17 +34,17 @@ pub record IsTooLong (shelf : ShelfSeen) (file : List ℕ) (max : ℕ) : Type 0 
   pub counted : Rose shelf.longs_before shelf.longs_after
   pub told : IfSome shelf.files (λ all. HasLonger all file max)
 
--- the text of structures that solve the kinds which the bytes stand for
-pub record IsSolved (bytes text : List ℕ) : Type 0 where
-  pub roles : List RoleParts
-  pub kinds : List PairSpec
-  pub narrow : IsNarrow bytes roles kinds
+-- the bytes are a text of this value and of no other
+pub record IsTextOf (bytes : List ℕ) (v : SpecParts) : Type 0 where
+  pub text : IsSpecText bytes v
+  pub only : (other : SpecParts) → IsSpecText bytes other → v ≡ other
+
+-- the text of structures that solve these kinds
+pub record IsSolved (roles : List RoleParts) (kinds : List PairSpec) (text : List ℕ) : Type 0 where
+  pub plain : ArePlain kinds
   pub structures : List Structure
   pub solves : Solves roles kinds structures
   pub text_is : text ≡ solution_text roles kinds structures
-
-abbrev pub kind_at : List PairSpec → ℕ → PairSpec
-kind_at kinds n = slice_index_or kinds n (record { name = []; role_a = 0; role_b = 0; clauses = [] })
 
 -- no structure satisfies this kind, and each kind before it has one
 pub record IsFirstUnsatisfiable (roles : List RoleParts) (kinds : List PairSpec) (kind : ℕ) : Type 0 where
@@ -50,20 +53,42 @@ pub record IsFirstUnsatisfiable (roles : List RoleParts) (kinds : List PairSpec)
   pub before : (earlier : ℕ) → earlier < kind → (m : Structure) × SatisfiesKind roles (kind_at kinds earlier) m
 
 -- the first kind that no structure satisfies, by name
-pub record IsUnsolvable (bytes text : List ℕ) : Type 0 where
-  pub roles : List RoleParts
-  pub kinds : List PairSpec
-  pub narrow : IsNarrow bytes roles kinds
+pub record IsUnsolvable (roles : List RoleParts) (kinds : List PairSpec) (text : List ℕ) : Type 0 where
+  pub plain : ArePlain kinds
   pub kind : ℕ
   pub first : IsFirstUnsatisfiable roles kinds kind
   pub text_is : text ≡ codes "unsatisfiable " ++ (kind_at kinds kind).name ++ codes "\n"
 
+-- not each clause of each kind is AG of a proposition
+pub record IsBeyond (kinds : List PairSpec) (text : List ℕ) : Type 0 where
+  pub not_plain : ArePlain kinds → ⊥
+  pub text_is : text ≡ only_always_text
+
+-- the status and its text are an answer to these roles and kinds
+abbrev pub AnswersKinds : List RoleParts → List PairSpec → Status → List ℕ → Type 0
+AnswersKinds roles kinds Done text = IsSolved roles kinds text
+AnswersKinds roles kinds Unsatisfiable text = IsUnsolvable roles kinds text
+AnswersKinds roles kinds Refused text = IsBeyond kinds text
+AnswersKinds roles kinds status text = ⊥
+
+-- the bytes are a text of some roles and kinds, and of no others; the answer is one to these
+pub record AnswersText (bytes : List ℕ) (status : Status) (text : List ℕ) : Type 0 where
+  pub value : SpecParts
+  pub is_text : IsTextOf bytes value
+  pub answers : AnswersKinds value.roles value.kinds status text
+
+-- the first bad line of bytes that are a text of nothing, and its lowest cause
+pub record AnswersFault (bytes text : List ℕ) : Type 0 where
+  pub no_text : (v : SpecParts) → IsSpecText bytes v → ⊥
+  pub line : ℕ
+  pub cause : TextCause
+  pub refused : IsRefused bytes line cause
+  pub text_is : text ≡ refused_text line cause
+
 -- the status and its text are an answer to a specification of these bytes
 abbrev pub AnswersSpec : List ℕ → Status → List ℕ → Type 0
-AnswersSpec bytes Done text = IsSolved bytes text
-AnswersSpec bytes Unsatisfiable text = IsUnsolvable bytes text
-AnswersSpec bytes Refused text = text ≡ codes "refused spec 0 NotYet\n"
-AnswersSpec bytes status text = ⊥
+AnswersSpec bytes Refused text = AnswersFault bytes text ⊎ AnswersText bytes Refused text
+AnswersSpec bytes status text = AnswersText bytes status text
 
 -- the file was read, and the answer is one to its bytes
 abbrev pub AnswersRead : ShelfSeen → List ℕ → Status → List ℕ → Type 0

@@ -1,10 +1,8 @@
 pub mod Answer
 pub mod Command
-pub mod FormulaText
 pub mod Labels
-pub mod Narrow
 pub mod Proposition
+pub mod Refusal
 pub mod SolutionText
-pub mod SpecText
 pub mod Status
 pub mod Solving

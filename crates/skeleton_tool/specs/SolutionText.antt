@@ -8,7 +8,7 @@ use Rattle.pair_structure.specs.Role.{RoleParts}
 use Rattle.pair_structure.specs.Structure.{Structure}
 use Rattle.ctl_form.specs.declared.pair_spec.PairSpec.{PairSpec}
 use Rattle.ctl_form.specs.Kind.{role_at}
-use Rattle.skeleton_tool.specs.FormulaText.{Names, name_at}
+use Rattle.ctl_text.specs.FormulaText.{Names, name_at}
 
 abbrev pub state_line : Names → Names → ℕ × ℕ → List ℕ
 state_line a b label = codes "state " ++ name_at a label.0 ++ codes " " ++ name_at b label.1 ++ codes "\n"

@@ -1,10 +1,21 @@
 -- A text gains the structures of kinds, one after another.
-use Rattle.std.specs.Prelude.{ℕ, ◌≡◌, ◌++◌, List}
+use Rattle.std.specs.Prelude.{ℕ, ◌≡◌, ◌<◌, ◌++◌, List, length}
 use Rattle.pair_structure.specs.Role.{RoleParts}
 use Rattle.pair_structure.specs.Structure.{Structure}
 use Rattle.ctl_form.specs.declared.pair_spec.PairSpec.{PairSpec}
 use Rattle.ctl_form.specs.Kind.{role_at, SatisfiesKind, Solves}
+use Rattle.skeleton_tool.specs.Refusal.{IsPlainKind}
 use Rattle.skeleton_tool.specs.SolutionText.{solved_kind_text, solved_kinds_text}
+
+-- both roles of the kind are among so many
+pub record HasRoles (count : ℕ) (kind : PairSpec) : Type 0 where
+  pub a : kind.role_a < count
+  pub b : kind.role_b < count
+
+-- what the engine takes: a kind over two of these roles, each clause of which is AG of a proposition
+pub record IsForEngine (roles : List RoleParts) (kind : PairSpec) : Type 0 where
+  pub has_roles : HasRoles (length roles) kind
+  pub plain : IsPlainKind kind
 
 -- the text of structures that solve these kinds was added
 abbrev pub AddsSolved : List RoleParts → List PairSpec → List ℕ → List ℕ → Type 0

@@ -1,15 +1,18 @@
 ghost use Rattle.std.specs.Prelude.{◌≡◌, ◌++◌, ◌<◌, [], IfOk, OnOk, All, length, codes};
-ghost use Rattle.skeleton_tool.specs.Answer.{IsAnswer, AnswersFile, AnswersSpec};
+ghost use Rattle.skeleton_tool.specs.Answer.{IsAnswer, AnswersFile, AnswersSpec, AnswersKinds};
 ghost use Rattle.skeleton_tool.specs.Command.{command_of, asked_files, words_of, spec_limit};
-ghost use Rattle.skeleton_tool.specs.Narrow.{IsNarrow};
+ghost use Rattle.skeleton_tool.specs.Refusal.{ArePlain};
+ghost use Rattle.skeleton_tool.specs.Solving.{HasRoles};
 
 use crate::command::synth_file;
-use crate::narrow::{Narrow, read_narrow};
+use crate::plain::are_plain;
+use crate::refusal::write_refused;
 use crate::solving::write_solved;
 use crate::status::Status;
 use ctl_form::PairSpec;
+use ctl_text::{TextFault, read_spec};
 use edge_io::{Shelf, ShelfFault};
-use pair_structure::Memory;
+use pair_structure::{Memory, Role};
 use std::alloc::Global;
 
 /// The most bytes that a specification may have.
@@ -74,41 +77,65 @@ fn synth<S: Shelf>(
     }
 }
 
-/// Writes the answer to a specification.
+/// Writes the answer to a specification: what is wrong with its text, or what its kinds give.
 fn answer_spec(alloc: Global, bytes: &[u8], text: &mut Vec<u8>) -> Result<Status, Memory>
     requires { text.old.items ≡ [] }
     ensures answer { IfOk result (λ status. AnswersSpec bytes.now status text.new.items) }
     ensures some { IfOk result (λ status. 0 < length text.new.items) }
 {
-    match read_narrow(alloc, bytes)? {
-        Some(narrow) => answer_narrow(alloc, bytes, &narrow, text),
-        None => {
-            text.extend_from_slice(b"refused spec 0 NotYet\n")?;
+    match read_spec(alloc, bytes) {
+        Ok(spec) => {
+            let status = answer_kinds(alloc, &spec.roles, &spec.kinds, text)?;
+            Ok(status)
+        }
+        Err(TextFault::At { line, what }) => {
+            write_refused(line, what, text)?;
             Ok(Status::Refused)
         }
+        Err(TextFault::Memory) => Err(Memory),
     }
 }
 
-fn answer_narrow(
+fn answer_kinds(
     alloc: Global,
-    bytes: &[u8],
-    narrow: &Narrow,
+    roles: &[Role],
+    kinds: &[PairSpec],
     text: &mut Vec<u8>,
 ) -> Result<Status, Memory>
-    requires narrow { IsNarrow bytes.now narrow.now.roles.items narrow.now.kinds.items }
+    requires roles { All (HasRoles (length roles.now)) kinds.now }
     requires empty { text.old.items ≡ [] }
-    ensures answer { IfOk result (λ status. AnswersSpec bytes.now status text.new.items) }
+    ensures answer { IfOk result (λ status. AnswersKinds roles.now kinds.now status text.new.items) }
+    ensures some { IfOk result (λ status. 0 < length text.new.items) }
+{
+    if !are_plain(kinds) {
+        text.extend_from_slice(b"refused spec 0 OnlyAlways\n")?;
+        return Ok(Status::Refused);
+    }
+    let status = answer_plain(alloc, roles, kinds, text)?;
+    Ok(status)
+}
+
+fn answer_plain(
+    alloc: Global,
+    roles: &[Role],
+    kinds: &[PairSpec],
+    text: &mut Vec<u8>,
+) -> Result<Status, Memory>
+    requires roles { All (HasRoles (length roles.now)) kinds.now }
+    requires plain { ArePlain kinds.now }
+    requires empty { text.old.items ≡ [] }
+    ensures answer { IfOk result (λ status. AnswersKinds roles.now kinds.now status text.new.items) }
     ensures some { IfOk result (λ status. 0 < length text.new.items) }
 {
     text.extend_from_slice(b"solution 1\n")?;
-    match write_solved(alloc, &narrow.roles, &narrow.kinds, text)? {
+    match write_solved(alloc, roles, kinds, text)? {
         None => {
             text.extend_from_slice(b"done\n")?;
             Ok(Status::Done)
         }
         Some(first) => {
             text.clear();
-            write_unsatisfiable(&narrow.kinds[first], text)?;
+            write_unsatisfiable(&kinds[first], text)?;
             Ok(Status::Unsatisfiable)
         }
     }

@@ -5,11 +5,10 @@ mod answer;
 mod call;
 mod command;
 mod engine;
-mod formula_text;
-mod narrow;
+mod plain;
+mod refusal;
 mod solution_text;
 mod solving;
-mod spec_text;
 mod status;
 
 pub use call::plan;

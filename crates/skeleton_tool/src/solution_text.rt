@@ -1,8 +1,8 @@
 ghost use Rattle.std.specs.Prelude.{◌≡◌, ◌++◌, OnOk};
 ghost use Rattle.std.specs.List.{flat_map};
+ghost use Rattle.ctl_text.specs.FormulaText.{name_at};
 ghost use Rattle.skeleton_tool.specs.SolutionText.{state_line, move_line, solved_kind_text};
 
-use crate::formula_text::write_local;
 use itoa::Buffer;
 use pair_structure::{Move, Name, PairStructure, Role, Side};
 use std::alloc::AllocError;
@@ -78,4 +78,14 @@ fn write_move(m: &Move, into: &mut Vec<u8>) -> Result<(), AllocError>
     into.extend_from_slice(buffer.format(m.to).as_bytes())?;
     into.extend_from_slice(b"\n")?;
     Ok(())
+}
+
+/// Appends the name of a local state; of none that there is, nothing.
+fn write_local(names: &[Name], local: u8, into: &mut Vec<u8>) -> Result<(), AllocError>
+    ensures { OnOk result (into.new.items ≡ into.old.items ++ name_at names.now local) }
+{
+    match names.get(local as usize) {
+        Some(name) => into.extend_from_slice(name.as_str().as_bytes()),
+        None => Ok(()),
+    }
 }

@@ -2,8 +2,7 @@ ghost use Rattle.std.specs.Prelude.{◌≡◌, ◌<◌, true, IfOk, MatchOption,
 ghost use Rattle.ctl_form.specs.Kind.{SatisfiesKind};
 ghost use Rattle.pair_structure.specs.Structure.{Structure};
 ghost use Rattle.skeleton_tool.specs.Answer.{IsFirstUnsatisfiable};
-ghost use Rattle.skeleton_tool.specs.Narrow.{IsNarrowKind};
-ghost use Rattle.skeleton_tool.specs.Solving.{AddsSolved, AddsOne};
+ghost use Rattle.skeleton_tool.specs.Solving.{IsForEngine, AddsSolved, AddsOne};
 
 use crate::engine::solve;
 use crate::solution_text::write_solved_kind;
@@ -18,7 +17,7 @@ pub(crate) fn write_solved(
     kinds: &[PairSpec],
     into: &mut Vec<u8>,
 ) -> Result<Option<usize>, Memory>
-    requires { All (IsNarrowKind roles.now) kinds.now }
+    requires { All (IsForEngine roles.now) kinds.now }
     ensures { IfOk result (λ first. MatchOption first (AddsSolved roles.now kinds.now into.old.items into.new.items) (IsFirstUnsatisfiable roles.now kinds.now)) }
 {
     for (number, kind) in kinds.iter().enumerate() {
@@ -36,7 +35,7 @@ fn write_one(
     kind: &PairSpec,
     into: &mut Vec<u8>,
 ) -> Result<bool, Memory>
-    requires { IsNarrowKind roles.now kind.now }
+    requires { IsForEngine roles.now kind.now }
     ensures { IfOk result (λ found. MatchBool found (AddsOne roles.now kind.now into.old.items into.new.items) ((m : Structure) → SatisfiesKind roles.now kind.now m → ⊥)) }
 {
     let a = &roles[kind.role_a as usize];

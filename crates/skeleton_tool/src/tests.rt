@@ -8,7 +8,7 @@ use std::test::Fail;
 
 const USAGE: &str = "usage:\n  synth SPEC\n";
 
-const NOT_YET: &str = "refused spec 0 NotYet\n";
+const ONLY_ALWAYS: &str = "refused spec 0 OnlyAlways\n";
 
 const PHIL: &str =
     "role phil\nlocal N\nlocal T\nlocal C\nstart N\narc N T free\narc T C\narc C N free\nend\n";
@@ -16,6 +16,9 @@ const PHIL: &str =
 const EXCL: &str = "kind excl phil phil\nrequire AG !(a.C & b.C)\nend\n";
 
 const QUIET: &str = "kind quiet phil phil\nrequire AG !a.T\nend\n";
+
+/// The same in another spelling.
+const SPACED: &str = "# quiet\n\n kind spaced\tphil phil \nrequire AG((!a.T))\nend\n";
 
 const LOUD: &str = "kind loud phil phil\nrequire AG b.C\nend\n";
 
@@ -79,6 +82,11 @@ end
 done
 ";
 
+/// Exclusion that is not spelled as AG of a proposition.
+const WEAK: &str = "kind weak phil phil\nrequire A[!(a.C & b.C) W false]\nend\n";
+
+const PROCESSES: &str = "process p0 phil\n# beside\n\tprocess p1 phil\nedge p0 p1 excl\n";
+
 /// Mutual exclusion in which each philosopher that tries will eat, with two processes.
 const MUTEX: &str = "kind mutex phil phil
 require AG !(a.C & b.C)
@@ -135,7 +143,11 @@ fn answers_specifications(rt: HostRuntime) -> Result<(), Fail> {
         (PHIL, QUIET, "", 3, "unsatisfiable quiet\n"),
         (PHIL, EXCL, QUIET, 3, "unsatisfiable quiet\n"),
         (PHIL, LOUD, QUIET, 3, "unsatisfiable loud\n"),
-        (PHIL, MUTEX, "", 2, NOT_YET),
+        (PHIL, SPACED, "", 3, "unsatisfiable spaced\n"),
+        (PHIL, EXCL, PROCESSES, 0, EXCL_SOLVED),
+        (PHIL, WEAK, "", 2, ONLY_ALWAYS),
+        (PHIL, QUIET, MUTEX, 2, ONLY_ALWAYS),
+        (PHIL, MUTEX, "", 2, ONLY_ALWAYS),
     ];
     for (roles, first, second, status, answer) in rows {
         let spec = format!(in alloc; "pairs 1\n{roles}{first}{second}done\n")?;
@@ -172,7 +184,7 @@ fn judges_words_then_the_file(rt: HostRuntime) -> Result<(), Fail> {
 fn reads_a_file_up_to_its_limit(rt: HostRuntime) -> Result<(), Fail> {
     let alloc = rt.alloc();
     let rows = [
-        (1_048_576, NOT_YET),
+        (1_048_576, "refused spec 2 BadHead\n"),
         (1_048_577, "refused spec 0 TooLong\n"),
     ];
     for (length, answer) in rows {
@@ -184,136 +196,109 @@ fn reads_a_file_up_to_its_limit(rt: HostRuntime) -> Result<(), Fail> {
     Ok(())
 }
 
+/// One philosopher and mutual exclusion with two processes, as a whole text.
+fn mutex_text(alloc: Global) -> Result<String, AllocError> {
+    format!(in alloc; "pairs 1\n{}{}done\n", PHIL, MUTEX)
+}
+
+/// What stands in the text of mutual exclusion, what takes its place, and the line and cause. A `/` is a line feed.
+const EDITS: &str = "done|done|0 OnlyAlways
+done|# end/done/ |0 OnlyAlways
+pairs 1|pairs 2|1 BadHead
+local T|local N|4 Twice
+local C|local 1|5 BadLine
+local T|local \x01|4 NotText
+start N|start X|6 UnknownName
+arc T C|arc T T|8 SelfArc
+arc C N free/||9 NoArc
+AF a.C|A a.C|13 BadLine
+AF a.C|AF a.E|13 UnknownName
+p1 phil|p1 cat|17 UnknownName
+process p1|process p0|17 Twice
+p0 p1|p0 p0|18 SelfEdge
+done|edge p1 p0 mutex/done|19 EdgeTwice
+done||20 BadLine";
+
+fn expect_edit(rt: &impl Abort, alloc: Global, row: &str) -> Result<(), Fail> {
+    let (old, rest) = row.split_once('|').ok_or("row")?;
+    let (new, cause) = rest.split_once('|').ok_or("row")?;
+    let old = old.replace(alloc, "/", "\n")?;
+    let new = new.replace(alloc, "/", "\n")?;
+    let text = mutex_text(alloc)?;
+    let (before, after) = text.split_once(old.as_str()).ok_or("not there")?;
+    let spec = format!(in alloc; "{before}{new}{after}")?;
+    let answer = format!(in alloc; "refused spec {cause}\n")?;
+    expect_answer(rt, alloc, &spec, 2, &answer)?;
+    Ok(())
+}
+
 #[test]
-fn takes_narrow_texts_alone(rt: HostRuntime) -> Result<(), Fail> {
-    let alloc = rt.alloc();
-    let narrow = format!(in alloc; "pairs 1\n{}{}done\n", PHIL, QUIET)?;
-    let again = format!(in alloc; "{}kind", PHIL)?;
-    let rows = [
-        ("done", "done", true),
-        ("!a.T", "(!a.T & (b.T -> false))", true),
-        ("done", "kind loud phil phil\nend\ndone", true),
-        ("AG", "AF", false),
-        ("AG", "AG AG", false),
-        ("AG ", "AG  ", false),
-        ("!a.T", "(!a.T)", false),
-        ("!a.T", "(!a.T& b.N)", false),
-        ("!a.T", "!a.E", false),
-        ("!a.T", "!c.T", false),
-        ("!a.T", "!a.T ", false),
-        ("!a.T", "!a.T\r", false),
-        ("phil phil", "phil", false),
-        ("phil phil", "phil cat", false),
-        ("kind", "# quiet\nkind", false),
-        ("kind", "\nkind", false),
-        ("kind", again.as_str(), false),
-        ("done", "kind quiet phil phil\nend\ndone", false),
-        ("pairs 1", "pairs 2", false),
-        ("pairs 1", "pairs  1", false),
-        ("start N\n", "", false),
-        ("arc C N free\n", "", false),
-        ("done\n", "", false),
-        ("done\n", "done", false),
-        ("done\n", "done\ndone\n", false),
-        ("done", "process p phil\ndone", false),
-    ];
-    for (old, new, is_narrow) in rows {
-        let (before, after) = narrow.split_once(old).ok_or("not there")?;
-        let spec = format!(in alloc; "{before}{new}{after}")?;
-        if is_narrow {
-            expect_answer(&rt, alloc, &spec, 3, "unsatisfiable quiet\n")?;
-        } else {
-            expect_answer(&rt, alloc, &spec, 2, NOT_YET)?;
-        }
+fn names_the_first_bad_line(rt: HostRuntime) -> Result<(), Fail> {
+    for row in EDITS.lines() {
+        expect_edit(&rt, rt.alloc(), row)?;
     }
     Ok(())
 }
 
-/// How many of each a text has. Signs stand before the atom of a clause.
-#[derive(Clone, Copy)]
-struct Counts {
-    roles: u8,
-    locals: u8,
-    free_arcs: u8,
-    kinds: u8,
-    clauses: u8,
-    signs: u8,
+#[test]
+fn refuses_texts_that_are_cut_off(rt: HostRuntime) -> Result<(), Fail> {
+    let alloc = rt.alloc();
+    let text = mutex_text(alloc)?;
+    let rows = [
+        (0, "refused spec 1 BadHead\n"),
+        (8, "refused spec 2 BadLine\n"),
+        (20, "refused spec 3 BadLine\n"),
+    ];
+    for (length, answer) in rows {
+        let front = text.get(..length).ok_or("short")?;
+        expect_answer(&rt, alloc, front, 2, answer)?;
+    }
+    Ok(())
 }
 
-/// The most of each in a narrow text: 14 signs, AG and an atom are 16 tokens.
-const MOST: Counts = Counts {
-    roles: 16,
-    locals: 32,
-    free_arcs: 24,
-    kinds: 16,
-    clauses: 8,
-    signs: 14,
-};
+const FIVE: &str = "role five
+local L0
+local L1
+local L2
+local L3
+local L4
+start L0
+arc L0 L1
+arc L1 L2
+arc L2 L3
+arc L3 L4
+arc L4 L0
+end
+";
 
-/// A text of roles that go round in a circle, and of kinds that no structure satisfies.
-fn text_with(alloc: Global, counts: Counts) -> Result<String, Fail> {
-    let mut text = String::from_str(alloc, "pairs 1\n")?;
-    for role in 0..counts.roles {
-        push_role(&mut text, role, counts)?;
+/// Clauses of which each is a chain of next steps; the last has so many.
+fn chain_text(alloc: Global, last: u8) -> Result<String, Fail> {
+    let mut text = format!(in alloc; "pairs 1\n{}kind chain five five\n", FIVE)?;
+    for atom in "a.L0 a.L1 a.L2 a.L3 a.L4 b.L0 b.L1 b.L2".split(' ') {
+        push_chain(&mut text, 62, atom)?;
     }
-    for kind in 0..counts.kinds {
-        write!(text, "kind k{kind} r0 r0\n")?;
-        for _ in 0..counts.clauses {
-            push_clause(&mut text, counts.signs)?;
-        }
-        text.push_str("end\n")?;
-    }
-    text.push_str("done\n")?;
+    push_chain(&mut text, last, "b.L3")?;
+    text.push_str("end\ndone\n")?;
     Ok(text)
 }
 
-fn push_role(text: &mut String, role: u8, counts: Counts) -> Result<(), Fail> {
-    write!(text, "role r{role}\n")?;
-    for local in 0..counts.locals {
-        write!(text, "local p{local}\n")?;
+fn push_chain(text: &mut String, steps: u8, atom: &str) -> Result<(), Fail> {
+    text.push_str("require ")?;
+    for _ in 0..steps {
+        text.push_str("EXa ")?;
     }
-    text.push_str("start p0\n")?;
-    for from in 0..counts.locals {
-        let to = (from + 1) % counts.locals;
-        let free = if from < counts.free_arcs { " free" } else { "" };
-        write!(text, "arc p{from} p{to}{free}\n")?;
-    }
-    text.push_str("end\n")?;
+    text.push_str(atom)?;
+    text.push_str("\n")?;
     Ok(())
 }
 
-fn push_clause(text: &mut String, signs: u8) -> Result<(), Fail> {
-    text.push_str("require AG ")?;
-    for _ in 0..signs {
-        text.push_str("!")?;
-    }
-    text.push_str("a.p1\n")?;
-    Ok(())
-}
-
+/// The closures have 512 and 513 members.
 #[test]
-fn takes_so_many_and_no_more(rt: HostRuntime) -> Result<(), Fail> {
+fn judges_closures_before_clauses(rt: HostRuntime) -> Result<(), Fail> {
     let alloc = rt.alloc();
-    expect_answer(
-        &rt,
-        alloc,
-        &text_with(alloc, MOST)?,
-        3,
-        "unsatisfiable k0\n",
-    )?;
-    let past = [
-        Counts { roles: 17, ..MOST },
-        Counts { locals: 33, ..MOST },
-        Counts {
-            free_arcs: 25,
-            ..MOST
-        },
-        Counts { kinds: 17, ..MOST },
-        Counts { clauses: 9, ..MOST },
-        Counts { signs: 15, ..MOST },
-    ];
-    for counts in past {
-        expect_answer(&rt, alloc, &text_with(alloc, counts)?, 2, NOT_YET)?;
-    }
+    let text = chain_text(alloc, 3)?;
+    expect_answer(&rt, alloc, &text, 2, ONLY_ALWAYS)?;
+    let text = chain_text(alloc, 4)?;
+    expect_answer(&rt, alloc, &text, 2, "refused spec 25 ClosureOver\n")?;
     Ok(())
 }

@@ -1,4 +1,3 @@
-use Rattle.std.proofs.Common.{ap, ◌∙◌}
 use Rattle.skeleton_extract.proofs.ArcTexts.{written_all, written_more}
 use Rattle.skeleton_extract.proofs.skeleton_text.write_arcs.Goals as goal
 

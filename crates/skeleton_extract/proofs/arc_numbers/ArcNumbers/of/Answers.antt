@@ -1,4 +1,3 @@
-use Rattle.std.proofs.lemmas.List.{get_or_default}
 use Rattle.skeleton_extract.proofs.ArcNumbering.{IsNumberingBelow-more}
 use Rattle.skeleton_extract.proofs.arc_numbers.ArcNumbers.of.Goals as goal
 

@@ -1,0 +1,149 @@
+-- What a line that is taken keeps.
+use Rattle.std.proofs.Common.{ℕ, zero, suc, ◌≡◌, ◌≢◌, ◌<◌, ◌≤◌, ◌+◌, ◌⊎◌, inl, inr, Bool, true, false, List, [], ◌∷◌, ◌++◌, length, get_or, Any, Contains, ◌==◌, refl, sym, ap, ◌∙◌, arith, length-append}
+use Rattle.std.proofs.lemmas.List.{get_or_default, length-map}
+use Rattle.std.proofs.lemmas.List.Elements.{All-push}
+use Rattle.std.proofs.lemmas.List.Quantifiers.{all_pairs_push}
+use Rattle.std.proofs.lemmas.List.Folds.{Any-from_list_any, list_any-from_Any}
+use Rattle.std.proofs.lemmas.Bool.{cases_lt, eq-eqb, eqb-true}
+use Rattle.std.specs.List.{list_any}
+use Rattle.pair_structure.specs.declared.side.LocalArc.{LocalArc}
+use Rattle.pair_structure.specs.Role.{RoleParts, JoinsTwo, AreLawful, HasArcFrom}
+use Rattle.ctl_form.specs.declared.pair_spec.PairSpec.{PairSpec}
+use Rattle.ctl_text.specs.declared.network.Process.{Process}
+use Rattle.ctl_text.specs.declared.cause.TextCause.TheVariants.{UnknownName, Twice, SelfArc, NoArc, TooMany}
+use Rattle.ctl_text.specs.Cause.{IsFree, NameStands, ArcStands, KindStands, ProcessStands, RoleEndStands}
+use Rattle.ctl_text.specs.Value.{SpecParts, number_in, role_names, kind_names, process_names}
+use Rattle.ctl_text.specs.Sound.{AreLocals, AreArcs, IsSoundState}
+use Rattle.ctl_text.specs.Item.{end_line, process_line}
+use Rattle.ctl_text.specs.State.{State, Group, in_locals, in_arcs, in_kind, among_processes, before_head, among_roles, among_kinds, among_edges, after_done, MayStand, opened_kind, after}
+use Rattle.ctl_text.proofs.Named.{contained, named_at, number_within}
+
+not_over : (n m : ℕ) → (m ≤ n → ⊥) → n < m
+not_over n m not_le = elim (cases_lt n m) [ inl lt ↦ lt | inr le ↦ absurd (not_le le) ]
+
+pub locals_more : (names : List (List ℕ)) (name : List ℕ) → AreLocals names → IsFree (NameStands names 32 name) → AreLocals (names ++ name ∷ [])
+locals_more names name sound free = record {
+  few_locals = (let few = not_over (length names) 32 (λ h. free.free (TooMany 32) (inr (refl, h))) in omega (arith, length-append names (name ∷ [])));
+  names_differ = all_pairs_push (λ x y. x ≢ y) names name sound.names_differ (λ k d lt same. free.free Twice (inl (refl, (k, lt, get_or_default names k name d lt ∙ same))));
+}
+
+pub arcs_more : (names : List (List ℕ)) (made : List LocalArc) (p q : List ℕ) (arc : LocalArc) → AreArcs (length names) made → IsFree (ArcStands names made p q)
+    → arc.from ≡ number_in names p → arc.to ≡ number_in names q → arc.from < length names → arc.to < length names → AreArcs (length names) (made ++ arc ∷ [])
+arcs_more names made p q arc sound free from to from_in to_in =
+    let p_there = contained names p (λ h. free.free UnknownName (inl (refl, h))) in
+    let q_there = contained names q (λ h. free.free UnknownName (inr (inl (refl, h)))) in
+    let p_is = named_at names p p_there in
+    let q_is = named_at names q q_there in record {
+      few_arcs = (let few = not_over (length made) 128 (λ h. free.free (TooMany 128) (inr (inr (inr (inr (refl, h)))))) in omega (arith, length-append made (arc ∷ [])));
+      joins = All-push (JoinsTwo (length names)) made arc sound.joins (record { from = from_in; to = to_in; differ = λ same. free.free SelfArc (inr (inr (inr (inl (refl, (let n : number_in names p ≡ number_in names q = cc in sym p_is ∙ ap (λ n. get_or names n []) n ∙ q_is)))))) });
+      ends_differ = all_pairs_push (λ (x y : LocalArc). x.from ≡ y.from → x.to ≡ y.to → ⊥) made arc sound.ends_differ
+          (λ k d lt f t. free.free Twice (inr (inr (inl (refl, (k, get_or made k d, lt, get_or_default made k (get_or made k d) d lt, (f ∙ from, t ∙ to)))))));
+    }
+
+any_left : (made : List LocalArc) (p : ℕ) → (HasArcFrom made p → ⊥) ⊎ HasArcFrom made p
+any_left made p = from (list_any (λ (a : LocalArc). a.from == p) made) refl
+  where
+    found : Any (λ (a : LocalArc). (a.from == p) ≡ true) made → HasArcFrom made p
+    found (i, x, lt, is, e) = (i, x, lt, is, eqb-true x.from p e)
+
+    tested : HasArcFrom made p → Any (λ (a : LocalArc). (a.from == p) ≡ true) made
+    tested (i, x, lt, is, e) = (i, x, lt, is, eq-eqb x.from p e)
+
+    from : (t : Bool) → list_any (λ (a : LocalArc). a.from == p) made ≡ t → (HasArcFrom made p → ⊥) ⊎ HasArcFrom made p
+    from true e = inr (found (Any-from_list_any (λ (a : LocalArc). a.from == p) made e))
+    from false e = inl (λ any. let h = list_any-from_Any (λ (a : LocalArc). a.from == p) made (tested any) in cc)
+
+-- where no local state is the first that no arc leaves, one leaves each
+all_left : (names : List (List ℕ)) (made : List LocalArc) → IsFree (RoleEndStands names made) → (n : ℕ) → n ≤ length names → (k : ℕ) → k < n → HasArcFrom made k
+all_left names made free zero le k k_lt = absurd (omega arith)
+all_left names made free (suc n) le k k_lt =
+    let before = all_left names made free n (omega arith) in
+    elim (cases_lt k n) [
+      | inl below ↦ before k below
+      | inr above ↦ elim (any_left made k) [
+        | inr left ↦ left
+        | inl stuck ↦ absurd (free.free (NoArc k) (k, refl, record { within = omega arith; stuck = stuck; before = λ j j_lt. before j (omega arith) }))
+      ]
+    ]
+
+pub role_made : (names : List (List ℕ)) (start : ℕ) (made : List LocalArc) → AreLocals names → start < length names → AreArcs (length names) made → IsFree (RoleEndStands names made) → AreLawful names start made
+role_made names start made distinct starts arcs free = record {
+  some = omega arith;
+  few_locals = distinct.few_locals;
+  names_differ = distinct.names_differ;
+  starts = starts;
+  few_arcs = arcs.few_arcs;
+  joins = arcs.joins;
+  ends_differ = arcs.ends_differ;
+  leaves = all_left names made free (length names) (omega arith);
+}
+
+-- there is room for one more
+pub role_room : (roles : List RoleParts) (name : List ℕ) → IsFree (NameStands (role_names roles) 16 name) → length roles + 1 ≤ 16
+role_room roles name free = let few = not_over (length (role_names roles)) 16 (λ h. free.free (TooMany 16) (inr (refl, h))) in omega (arith, length-map roles (λ (r : RoleParts). r.name))
+
+pub kind_room : (roles : List RoleParts) (kinds : List PairSpec) (name a b : List ℕ) → IsFree (KindStands roles kinds name a b) → length kinds + 1 ≤ 16
+kind_room roles kinds name a b free = let few = not_over (length (kind_names kinds)) 16 (λ h. free.free (TooMany 16) (inr (inr (inr (refl, h))))) in omega (arith, length-map kinds (λ (k : PairSpec). k.name))
+
+pub process_room : (roles : List RoleParts) (processes : List Process) (name r : List ℕ) → IsFree (ProcessStands roles processes name r) → length processes + 1 ≤ 1024
+process_room roles processes name r free = let few = not_over (length (process_names processes)) 1024 (λ h. free.free (TooMany 1024) (inr (inr (refl, h)))) in omega (arith, length-map processes (λ (p : Process). p.name))
+
+pub no_locals : (names : List (List ℕ)) → names ≡ [] → AreLocals names
+no_locals names none = rw none (record { few_locals = omega arith; names_differ = λ i j d lt within. absurd (omega arith) })
+
+-- a role is opened
+pub role_opens : (s : State) (name role_name : List ℕ) (names : List (List ℕ)) → IsSoundState s → IsFree (NameStands (role_names s.parts.roles) 16 name) → names ≡ [] → IsSoundState (record { parts = s.parts; group = in_locals role_name names })
+role_opens s name role_name names sound free none = record {
+  few_roles = role_room s.parts.roles name free;
+  few_kinds = (let h = sound.few_kinds in omega arith);
+  few_processes = sound.few_processes;
+  group = no_locals names none;
+  kind_roles = tt;
+}
+
+role_within : (roles : List RoleParts) (name : List ℕ) → Contains (role_names roles) name → number_in (role_names roles) name < length roles
+role_within roles name there = let lt = number_within (role_names roles) name there in omega (arith, length-map roles (λ (r : RoleParts). r.name))
+
+-- a kind is opened
+pub kind_opens : (s : State) (name a b : List ℕ) → IsSoundState s → IsFree (KindStands s.parts.roles s.parts.kinds name a b) → IsSoundState (record { parts = s.parts; group = opened_kind s.parts.roles name a b })
+kind_opens s name a b sound free = record {
+  few_roles = (let h = sound.few_roles in omega arith);
+  few_kinds = kind_room s.parts.roles s.parts.kinds name a b free;
+  few_processes = sound.few_processes;
+  group = tt;
+  kind_roles = (role_within s.parts.roles a (contained (role_names s.parts.roles) a (λ h. free.free UnknownName (inl (refl, h)))), role_within s.parts.roles b (contained (role_names s.parts.roles) b (λ h. free.free UnknownName (inr (inl (refl, h))))));
+}
+
+-- the open role or kind is declared
+pub end_sound : (v : SpecParts) (g : Group) → IsSoundState (record { parts = v; group = g }) → MayStand g end_line → IsSoundState (after (record { parts = v; group = g }) end_line)
+end_sound v (in_arcs r) sound may = record {
+  few_roles = (let h = sound.few_roles in omega (arith, length-append v.roles (r ∷ [])));
+  few_kinds = sound.few_kinds;
+  few_processes = sound.few_processes;
+  group = tt;
+  kind_roles = tt;
+}
+end_sound v (in_kind k) sound may = record {
+  few_roles = sound.few_roles;
+  few_kinds = (let h = sound.few_kinds in omega (arith, length-append v.kinds (k ∷ [])));
+  few_processes = sound.few_processes;
+  group = tt;
+  kind_roles = tt;
+}
+end_sound v before_head sound may = absurd may
+end_sound v among_roles sound may = absurd may
+end_sound v (in_locals n names) sound may = absurd may
+end_sound v among_kinds sound may = absurd may
+end_sound v among_processes sound may = absurd may
+end_sound v among_edges sound may = absurd may
+end_sound v after_done sound may = absurd may
+
+-- a process is declared
+pub process_sound : (s : State) (name r : List ℕ) → IsSoundState s → IsFree (ProcessStands s.parts.roles s.parts.processes name r) → IsSoundState (after s (process_line name r))
+process_sound s name r sound free = record {
+  few_roles = (let h = sound.few_roles in omega arith);
+  few_kinds = (let h = sound.few_kinds in omega arith);
+  few_processes = (let h = process_room s.parts.roles s.parts.processes name r free in omega (arith, length-append s.parts.processes (record { name = name; role = number_in (role_names s.parts.roles) r } ∷ [])));
+  group = tt;
+  kind_roles = tt;
+}

@@ -1,0 +1,49 @@
+-- What a line of a specification says.
+use Rattle.std.specs.Prelude.{ℕ, ◌≡◌, Bool, true, false, List, [], ◌∷◌, codes}
+use Rattle.pair_structure.specs.Name.{IsName}
+use Rattle.ctl_form.specs.Form.{Form}
+
+-- the kinds of lines; a clause that is required comes with the words behind `require`
+pub data Said : Type 0 where
+  head_line : Said
+  role_line : List ℕ → Said
+  local_line : List ℕ → Said
+  start_line : List ℕ → Said
+  arc_line : List ℕ → List ℕ → Bool → Said
+  kind_line : List ℕ → List ℕ → List ℕ → Said
+  require_line : List (List ℕ) → Form → Said
+  end_line : Said
+  process_line : List ℕ → List ℕ → Said
+  edge_line : List ℕ → List ℕ → List ℕ → Said
+  done_line : Said
+
+-- the words that say it
+abbrev pub words_for : Said → List (List ℕ)
+words_for head_line = codes "pairs" ∷ codes "1" ∷ []
+words_for (role_line name) = codes "role" ∷ name ∷ []
+words_for (local_line name) = codes "local" ∷ name ∷ []
+words_for (start_line name) = codes "start" ∷ name ∷ []
+words_for (arc_line from to false) = codes "arc" ∷ from ∷ to ∷ []
+words_for (arc_line from to true) = codes "arc" ∷ from ∷ to ∷ codes "free" ∷ []
+words_for (kind_line name a b) = codes "kind" ∷ name ∷ a ∷ b ∷ []
+words_for (require_line words form) = codes "require" ∷ words
+words_for end_line = codes "end" ∷ []
+words_for (process_line name r) = codes "process" ∷ name ∷ r ∷ []
+words_for (edge_line p q kind) = codes "edge" ∷ p ∷ q ∷ kind ∷ []
+words_for done_line = codes "done" ∷ []
+
+-- each name of it is spelled as a name
+abbrev pub IsSpelled : Said → Type 0
+IsSpelled (role_line name) = IsName name
+IsSpelled (local_line name) = IsName name
+IsSpelled (start_line name) = IsName name
+IsSpelled (arc_line from to free) = IsName from × IsName to
+IsSpelled (kind_line name a b) = IsName name × IsName a × IsName b
+IsSpelled (process_line name r) = IsName name × IsName r
+IsSpelled (edge_line p q kind) = IsName p × IsName q × IsName kind
+IsSpelled item = Unit {0}
+
+-- the words say it
+pub record Says (words : List (List ℕ)) (item : Said) : Type 0 where
+  pub words_are : words ≡ words_for item
+  pub spelled : IsSpelled item

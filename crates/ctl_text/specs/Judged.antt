@@ -1,0 +1,51 @@
+-- What judging and taking a line gives.
+use Rattle.std.specs.Prelude.{ℕ, ◌≡◌, ◌∷◌, List, ◌⊎◌, codes}
+use Rattle.ctl_form.specs.Form.{Form}
+use Rattle.ctl_text.specs.declared.cause.TextCause.{TextCause}
+use Rattle.ctl_text.specs.declared.cause.TextCause.TheVariants.{BadHead, Long, BadLine, UnknownName}
+use Rattle.ctl_text.specs.declared.cause.LineFault.{LineFault}
+use Rattle.ctl_text.specs.declared.cause.LineFault.TheVariants.{Bad, Memory}
+use Rattle.ctl_text.specs.Long.{IsLong}
+use Rattle.ctl_text.specs.Required.{SpellsOver, AreKnownOver, IsUnspelled}
+use Rattle.ctl_text.specs.Sign.{Names}
+use Rattle.ctl_text.specs.Item.{Said, require_line, Says}
+use Rattle.ctl_text.specs.State.{State, Group, before_head, MayStand}
+use Rattle.ctl_text.specs.Cause.{IsLowest, IsFree, WordsStand, MaySay, Leaves}
+
+-- nothing stands against the words, and they leave this state
+pub record IsTakenAs (s : State) (words : List (List ℕ)) (t : State) : Type 0 where
+  pub free : IsFree (WordsStand s words)
+  pub item : Said
+  pub leaves : Leaves s words item t
+
+-- want of memory, or the lowest cause that stands
+abbrev pub IsBadBy : (TextCause → Type 0) → LineFault → Type 0
+IsBadBy against Memory = Unit {0}
+IsBadBy against (Bad cause) = IsLowest against cause
+
+-- the cause of a line that may not stand there and requires no clause
+abbrev pub misplaced : Group → TextCause
+misplaced before_head = BadHead
+misplaced group = BadLine
+
+-- the words require this clause, and nothing stands against them
+pub record IsClauseOf (s : State) (words : List (List ℕ)) (form : Form) : Type 0 where
+  pub may : MaySay s (codes "require" ∷ words) (require_line words form)
+  pub free : IsFree (WordsStand s (codes "require" ∷ words))
+
+-- what stands against tokens that are to spell a formula over these local states
+abbrev pub SpellingStands : Names → Names → List (List ℕ) → TextCause → Type 0
+SpellingStands a b tokens cause =
+    ((cause ≡ Long) × IsLong tokens)
+    ⊎ (((cause ≡ BadLine) × IsUnspelled a b tokens)
+    ⊎ ((form : Form) × SpellsOver a b tokens form × ((cause ≡ UnknownName) × (AreKnownOver a b tokens → ⊥))))
+
+-- the tokens spell this formula over these local states, and nothing stands against them
+pub record IsSpelledOver (a b : Names) (tokens : List (List ℕ)) (form : Form) : Type 0 where
+  pub spells : SpellsOver a b tokens form
+  pub known : AreKnownOver a b tokens
+  pub short : IsLong tokens → ⊥
+
+-- the words say something, and the group is open where it stands
+abbrev pub CanSay : Group → List (List ℕ) → Said → Type 0
+CanSay group words item = Says words item × MayStand group item

@@ -1,0 +1,42 @@
+-- What stands above a line and an open group keep, as long as each line is taken.
+use Rattle.std.specs.Prelude.{ℕ, ◌≡◌, ◌≢◌, ◌<◌, ◌≤◌, ◌+◌, List, length, All, AllPairs}
+use Rattle.pair_structure.specs.declared.side.LocalArc.{LocalArc}
+use Rattle.pair_structure.specs.Role.{JoinsTwo, RoleParts}
+use Rattle.ctl_text.specs.State.{State, Group, in_locals, in_arcs, in_kind}
+
+pub record AreLocals (names : List (List ℕ)) : Type 0 where
+  pub few_locals : length names ≤ 32
+  pub names_differ : AllPairs (λ x y. x ≢ y) names
+
+pub record AreArcs (count : ℕ) (made : List LocalArc) : Type 0 where
+  pub few_arcs : length made ≤ 128
+  pub joins : All (JoinsTwo count) made
+  pub ends_differ : AllPairs (λ (x y : LocalArc). x.from ≡ y.from → x.to ≡ y.to → ⊥) made
+
+-- all that makes a role, but for an arc that leaves each local state
+abbrev pub IsSound : Group → Type 0
+IsSound (in_locals name names) = AreLocals names
+IsSound (in_arcs r) = AreLocals r.locals × (r.start < length r.locals) × AreArcs (length r.locals) r.arcs
+IsSound group = Unit {0}
+
+-- how many roles, and how many kinds, are open
+abbrev pub open_roles : Group → ℕ
+open_roles (in_locals name names) = 1
+open_roles (in_arcs r) = 1
+open_roles group = 0
+
+abbrev pub open_kinds : Group → ℕ
+open_kinds (in_kind k) = 1
+open_kinds group = 0
+
+-- the roles of an open kind are declared
+abbrev pub HasItsRoles : List RoleParts → Group → Type 0
+HasItsRoles roles (in_kind k) = (k.role_a < length roles) × (k.role_b < length roles)
+HasItsRoles roles group = Unit {0}
+
+pub record IsSoundState (s : State) : Type 0 where
+  pub few_roles : length s.parts.roles + open_roles s.group ≤ 16
+  pub few_kinds : length s.parts.kinds + open_kinds s.group ≤ 16
+  pub few_processes : length s.parts.processes ≤ 1024
+  pub group : IsSound s.group
+  pub kind_roles : HasItsRoles s.parts.roles s.group

@@ -1,0 +1,112 @@
+-- What stands above a line: what has been declared, and which group of lines is open.
+use Rattle.std.specs.Prelude.{ℕ, ◌<◌, List, [], ◌∷◌, ◌++◌, Bool, length}
+use Rattle.pair_structure.specs.declared.side.LocalArc.{LocalArc}
+use Rattle.pair_structure.specs.Role.{RoleParts}
+use Rattle.ctl_form.specs.declared.pair_spec.PairSpec.{PairSpec}
+use Rattle.ctl_form.specs.Form.{Form}
+use Rattle.ctl_text.specs.Item.{Said, head_line, role_line, local_line, start_line, arc_line, kind_line, require_line, end_line, process_line, edge_line, done_line}
+use Rattle.ctl_text.specs.Value.{SpecParts, role_names, kind_names, process_names, number_in}
+
+-- which group is open: an open role has its name and local states above its start, and its arcs below; an open kind has its clauses
+pub data Group : Type 0 where
+  before_head : Group
+  among_roles : Group
+  in_locals : List ℕ → List (List ℕ) → Group
+  in_arcs : RoleParts → Group
+  among_kinds : Group
+  in_kind : PairSpec → Group
+  among_processes : Group
+  among_edges : Group
+  after_done : Group
+
+-- what is declared above, and the open group
+pub record State : Type 0 where
+  pub parts : SpecParts
+  pub group : Group
+
+abbrev pub first_state : State
+first_state = record { parts = record { roles = []; kinds = []; processes = []; edges = [] }; group = before_head }
+
+-- the line may stand there
+abbrev pub MayStand : Group → Said → Type 0
+MayStand before_head head_line = Unit {0}
+MayStand among_roles (role_line name) = Unit {0}
+MayStand among_roles (kind_line name a b) = Unit {0}
+MayStand among_roles (process_line name r) = Unit {0}
+MayStand among_roles (edge_line p q kind) = Unit {0}
+MayStand among_roles done_line = Unit {0}
+MayStand (in_locals name names) (local_line n) = Unit {0}
+MayStand (in_locals name names) (start_line n) = 0 < length names
+MayStand (in_arcs r) (arc_line p q free) = Unit {0}
+MayStand (in_arcs r) end_line = Unit {0}
+MayStand among_kinds (kind_line name a b) = Unit {0}
+MayStand among_kinds (process_line name r) = Unit {0}
+MayStand among_kinds (edge_line p q kind) = Unit {0}
+MayStand among_kinds done_line = Unit {0}
+MayStand (in_kind k) (require_line words form) = Unit {0}
+MayStand (in_kind k) end_line = Unit {0}
+MayStand among_processes (process_line name r) = Unit {0}
+MayStand among_processes (edge_line p q kind) = Unit {0}
+MayStand among_processes done_line = Unit {0}
+MayStand among_edges (edge_line p q kind) = Unit {0}
+MayStand among_edges done_line = Unit {0}
+MayStand group item = ⊥
+
+abbrev pub with_local : Group → List ℕ → Group
+with_local (in_locals name names) n = in_locals name (names ++ n ∷ [])
+with_local group n = group
+
+abbrev pub with_start : Group → List ℕ → Group
+with_start (in_locals name names) n = in_arcs (record { name = name; locals = names; start = number_in names n; arcs = [] })
+with_start group n = group
+
+abbrev pub arc_in : List (List ℕ) → List ℕ → List ℕ → Bool → LocalArc
+arc_in names p q free = record { from = number_in names p; to = number_in names q; free = free }
+
+abbrev pub with_arc : Group → List ℕ → List ℕ → Bool → Group
+with_arc (in_arcs r) p q free = in_arcs (record { name = r.name; locals = r.locals; start = r.start; arcs = r.arcs ++ arc_in r.locals p q free ∷ [] })
+with_arc group p q free = group
+
+-- the open kind with one more clause
+abbrev pub with_form : Group → Form → Group
+with_form (in_kind k) form = in_kind (record { name = k.name; role_a = k.role_a; role_b = k.role_b; clauses = k.clauses ++ form ∷ [] })
+with_form group form = group
+
+-- an open role or kind is declared where it ends
+abbrev pub with_ended : SpecParts → Group → SpecParts
+with_ended v (in_arcs r) = record { roles = v.roles ++ r ∷ []; kinds = v.kinds; processes = v.processes; edges = v.edges }
+with_ended v (in_kind k) = record { roles = v.roles; kinds = v.kinds ++ k ∷ []; processes = v.processes; edges = v.edges }
+with_ended v group = v
+
+abbrev pub group_after_end : Group → Group
+group_after_end (in_arcs r) = among_roles
+group_after_end (in_kind k) = among_kinds
+group_after_end group = group
+
+abbrev pub opened_kind : List RoleParts → List ℕ → List ℕ → List ℕ → Group
+opened_kind roles name a b = in_kind (record { name = name; role_a = number_in (role_names roles) a; role_b = number_in (role_names roles) b; clauses = [] })
+
+abbrev pub with_process : SpecParts → List ℕ → List ℕ → SpecParts
+with_process v name r = record { roles = v.roles; kinds = v.kinds; processes = v.processes ++ record { name = name; role = number_in (role_names v.roles) r } ∷ []; edges = v.edges }
+
+abbrev pub with_edge : SpecParts → List ℕ → List ℕ → List ℕ → SpecParts
+with_edge v p q kind = record {
+  roles = v.roles;
+  kinds = v.kinds;
+  processes = v.processes;
+  edges = v.edges ++ record { a = number_in (process_names v.processes) p; b = number_in (process_names v.processes) q; kind = number_in (kind_names v.kinds) kind } ∷ [];
+}
+
+-- what stands below a line that says this
+abbrev pub after : State → Said → State
+after s head_line = record { parts = s.parts; group = among_roles }
+after s (role_line name) = record { parts = s.parts; group = in_locals name [] }
+after s (local_line n) = record { parts = s.parts; group = with_local s.group n }
+after s (start_line n) = record { parts = s.parts; group = with_start s.group n }
+after s (arc_line p q free) = record { parts = s.parts; group = with_arc s.group p q free }
+after s (kind_line name a b) = record { parts = s.parts; group = opened_kind s.parts.roles name a b }
+after s (require_line words form) = record { parts = s.parts; group = with_form s.group form }
+after s end_line = record { parts = with_ended s.parts s.group; group = group_after_end s.group }
+after s (process_line name r) = record { parts = with_process s.parts name r; group = among_processes }
+after s (edge_line p q kind) = record { parts = with_edge s.parts p q kind; group = among_edges }
+after s done_line = record { parts = s.parts; group = after_done }

@@ -1,0 +1,51 @@
+-- What a specification says, as a value.
+use Rattle.std.specs.Prelude.{ℕ, ◌≡◌, ◌==◌, ◌||◌, ◌⊎◌, Bool, List, [], map, position, Any, count_by, Option, Some, None, slice_index_or}
+use Rattle.std.specs.Str.{bytes_eq}
+use Rattle.pair_structure.specs.Role.{RoleParts}
+use Rattle.ctl_form.specs.declared.pair_spec.PairSpec.{PairSpec}
+use Rattle.ctl_text.specs.declared.network.Process.{Process}
+use Rattle.ctl_text.specs.declared.network.Edge.{Edge}
+
+-- roles, kinds of pairs, processes and edges, each numbered by its place
+pub record SpecParts : Type 0 where
+  pub roles : List RoleParts
+  pub kinds : List PairSpec
+  pub processes : List Process
+  pub edges : List Edge
+
+abbrev pub role_names : List RoleParts → List (List ℕ)
+role_names = map (λ r. r.name)
+
+abbrev pub kind_names : List PairSpec → List (List ℕ)
+kind_names = map (λ k. k.name)
+
+abbrev pub process_names : List Process → List (List ℕ)
+process_names = map (λ p. p.name)
+
+abbrev pub or_zero : Option ℕ → ℕ
+or_zero None = 0
+or_zero (Some n) = n
+
+-- the number of a name among these
+abbrev pub number_in : List (List ℕ) → List ℕ → ℕ
+number_in names name = or_zero (position (λ x. bytes_eq x name) names)
+
+-- the process is an end of the edge
+abbrev pub is_at : ℕ → Edge → Bool
+is_at k e = e.a == k || e.b == k
+
+-- how many edges the process has
+abbrev pub degree_of : List Edge → ℕ → ℕ
+degree_of edges k = count_by (is_at k) edges
+
+-- some edge is between the two processes, whichever is its side a
+abbrev pub AreJoined : List Edge → ℕ → ℕ → Type 0
+AreJoined edges p q = Any (λ (e : Edge). ((e.a ≡ p) × (e.b ≡ q)) ⊎ ((e.a ≡ q) × (e.b ≡ p))) edges
+
+-- a kind by its number; past the end one over role 0
+abbrev pub kind_at : List PairSpec → ℕ → PairSpec
+kind_at kinds n = slice_index_or kinds n (record { name = []; role_a = 0; role_b = 0; clauses = [] })
+
+-- a process by its number; past the end one of role 0
+abbrev pub process_at : List Process → ℕ → Process
+process_at processes n = slice_index_or processes n (record { name = []; role = 0 })

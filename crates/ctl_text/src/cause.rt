@@ -1,0 +1,99 @@
+use pair_structure::{Memory, StructureFault};
+use std::alloc::AllocError;
+use thiserror::Error;
+
+/// Why a line of a text is refused. Of several causes of one line the first in this order is named.
+#[derive(Clone, Copy, Debug, PartialEq, Eq, Error)]
+pub enum TextCause {
+    /// The line has a byte that is not allowed.
+    #[error("NotText")]
+    NotText,
+    /// The first line that is not passed over is not the head, or there is none.
+    #[error("BadHead")]
+    BadHead,
+    /// A required formula has more than 256 tokens that are not round parentheses, or more than 256 open round parentheses at one place.
+    #[error("Long")]
+    Long,
+    /// The line may not stand here, has another number of words, a misspelt name or number, or a formula outside the grammar.
+    #[error("BadLine")]
+    BadLine,
+    /// A name, or a number that names something, names nothing.
+    #[error("UnknownName")]
+    UnknownName,
+    /// A name of one name space, an arc, or the shape of a star is declared again.
+    #[error("Twice")]
+    Twice,
+    /// An arc has the same local state at both ends.
+    #[error("SelfArc")]
+    SelfArc,
+    /// At the end of a role no arc leaves this local state, the lowest such.
+    #[error("NoArc")]
+    NoArc { local: u8 },
+    /// The line declares one more than this limit.
+    #[error("TooMany")]
+    TooMany { limit: u32 },
+    /// At the end of a kind, its closure has more than 512 members.
+    #[error("ClosureOver")]
+    ClosureOver,
+    /// An edge names one process twice.
+    #[error("SelfEdge")]
+    SelfEdge,
+    /// An edge between these two processes stands above.
+    #[error("EdgeTwice")]
+    EdgeTwice,
+    /// An edge gives this process, the lower one of two such, its 33rd neighbour.
+    #[error("DegreeOver")]
+    DegreeOver { process: u32 },
+    /// A process has not the kind's role of its side, or a label of a star not the star's role.
+    #[error("RoleMismatch")]
+    RoleMismatch,
+    /// At the end of a kind in a solution, its states and moves are no pair structure.
+    #[error("NotAPair")]
+    NotAPair { fault: StructureFault },
+    /// The labels of a star fall, or a member is not greater than the one above it.
+    #[error("NotRising")]
+    NotRising,
+    /// The pair states of a member have different local states of the centre.
+    #[error("Disagree")]
+    Disagree,
+}
+
+/// Why a text is refused.
+#[derive(Clone, Copy, Debug, PartialEq, Eq, Error)]
+pub enum TextFault {
+    /// The first bad line, counted from 1, and its lowest cause.
+    #[error("{what} in line {line}")]
+    At { line: u64, what: TextCause },
+    /// Memory ran out.
+    #[error("out of memory")]
+    Memory,
+}
+
+/// Why a line is not taken.
+#[derive(Clone, Copy, Debug, PartialEq, Eq)]
+pub(crate) enum LineFault {
+    Bad(TextCause),
+    Memory,
+}
+
+impl From<AllocError> for LineFault {
+    ghost use Rattle.ctl_text.specs.declared.cause.LineFault.TheVariants.{Memory};
+    ghost use Rattle.std.specs.Prelude.{◌≡◌};
+
+    ghost from_gives = { λ _ e. e ≡ Memory };
+
+    fn from(_e: AllocError) -> LineFault {
+        LineFault::Memory
+    }
+}
+
+impl From<Memory> for LineFault {
+    ghost use Rattle.ctl_text.specs.declared.cause.LineFault.TheVariants.{Memory};
+    ghost use Rattle.std.specs.Prelude.{◌≡◌};
+
+    ghost from_gives = { λ _ e. e ≡ Memory };
+
+    fn from(_fault: Memory) -> LineFault {
+        LineFault::Memory
+    }
+}

@@ -1,0 +1,166 @@
+ghost use Rattle.std.specs.Prelude.{◌≡◌, ◌↔◌, ◌≤◌, ◌∷◌, IsTrue, IfOk, IfErr, length, map, codes};
+ghost use Rattle.ctl_form.specs.Form.{form_of};
+ghost use Rattle.ctl_form.specs.Kind.{role_at};
+ghost use Rattle.ctl_text.specs.Judged.{IsTakenAs, IsBadBy, IsClauseOf, IsSpelledOver, SpellingStands};
+ghost use Rattle.ctl_text.specs.Long.{IsLong};
+ghost use Rattle.ctl_text.specs.Required.{tokens_in};
+ghost use Rattle.ctl_text.specs.State.{with_form};
+ghost use Rattle.ctl_text.specs.Cause.{WordsStand};
+ghost use Rattle.ctl_text.specs.Sound.{IsSoundState};
+ghost use Rattle.ctl_text.specs.View.{group_of, state_of};
+
+use crate::FormulaFault;
+use crate::cause::{LineFault, TextCause};
+use crate::formula_reader::read_formula;
+use crate::long::is_long;
+use crate::place::{Place, Reader};
+use crate::token::tokens_of;
+use ctl_form::Formula;
+use pair_structure::{Memory, Name, Role};
+use std::alloc::{AllocError, Global};
+
+/// What stands below a line that requires a clause, of these words behind `require`.
+pub(crate) fn take_clause(
+    alloc: Global,
+    reader: Reader,
+    words: &[&[u8]],
+) -> Result<Reader, LineFault>
+    requires { IsSoundState (state_of reader) }
+    ensures taken { IfOk result (λ r. IsTakenAs (state_of reader) (codes "require" ∷ map (λ w. w.now) words.now) (state_of r)) }
+    ensures sound { IfOk result (λ r. IsSoundState (state_of r)) }
+    ensures refused { IfErr result (IsBadBy (WordsStand (state_of reader) (codes "require" ∷ map (λ w. w.now) words.now))) }
+{
+    let formula = clause_of(alloc, &reader, words)?;
+    let reader = with_formula(reader, formula)?;
+    Ok(reader)
+}
+
+/// The clause that the words spell for the open kind.
+fn clause_of(alloc: Global, reader: &Reader, words: &[&[u8]]) -> Result<Formula, LineFault>
+    ensures clause { IfOk result (λ f. IsClauseOf (state_of reader.now) (map (λ w. w.now) words.now) (form_of f)) }
+    ensures refused { IfErr result (IsBadBy (WordsStand (state_of reader.now) (codes "require" ∷ map (λ w. w.now) words.now))) }
+{
+    match &reader.place {
+        Place::BeforeHead => Err(LineFault::Bad(TextCause::BadHead)),
+        Place::InKind { role_a, role_b, .. } => {
+            let a = locals_at(&reader.roles, *role_a);
+            let b = locals_at(&reader.roles, *role_b);
+            match spelled_over(alloc, a, b, words) {
+                Ok(formula) => Ok(formula),
+                Err(fault) => Err(fault),
+            }
+        }
+        _ => {
+            if are_long(alloc, words)? {
+                return Err(LineFault::Bad(TextCause::Long));
+            }
+            Err(LineFault::Bad(TextCause::BadLine))
+        }
+    }
+}
+
+/// The names of the local states of a role by its number, and none past the end.
+fn locals_at(roles: &[Role], n: u8) -> &[Name]
+    ensures locals { result.now ≡ (role_at roles.now n).locals }
+    ensures few { length result.now ≤ 32 }
+{
+    match roles.get(n as usize) {
+        Some(role) => role.locals(),
+        None => &[],
+    }
+}
+
+/// The formula that the words spell over these local states.
+fn spelled_over(
+    alloc: Global,
+    a: &[Name],
+    b: &[Name],
+    words: &[&[u8]],
+) -> Result<Formula, LineFault>
+    requires few_a { length a.now ≤ 32 }
+    requires few_b { length b.now ≤ 32 }
+    ensures spelled { IfOk result (λ f. IsSpelledOver a.now b.now (tokens_in (map (λ w. w.now) words.now)) (form_of f)) }
+    ensures refused { IfErr result (IsBadBy (SpellingStands a.now b.now (tokens_in (map (λ w. w.now) words.now)))) }
+{
+    let tokens = tokens_of(alloc, words)?;
+    match formula_over(alloc, a, b, &tokens) {
+        Ok(formula) => Ok(formula),
+        Err(fault) => Err(fault),
+    }
+}
+
+/// The formula that these tokens spell over these local states.
+fn formula_over(
+    alloc: Global,
+    a: &[Name],
+    b: &[Name],
+    tokens: &[&[u8]],
+) -> Result<Formula, LineFault>
+    requires few_a { length a.now ≤ 32 }
+    requires few_b { length b.now ≤ 32 }
+    ensures spelled { IfOk result (λ f. IsSpelledOver a.now b.now (map (λ t. t.now) tokens.now) (form_of f)) }
+    ensures refused { IfErr result (IsBadBy (SpellingStands a.now b.now (map (λ t. t.now) tokens.now))) }
+{
+    if is_long(tokens) {
+        return Err(LineFault::Bad(TextCause::Long));
+    }
+    match read_formula(alloc, a, b, tokens) {
+        Ok(formula) => Ok(formula),
+        Err(FormulaFault::Outside) => Err(LineFault::Bad(TextCause::BadLine)),
+        Err(FormulaFault::Unknown) => Err(LineFault::Bad(TextCause::UnknownName)),
+        Err(FormulaFault::Memory) => Err(LineFault::Memory),
+    }
+}
+
+/// Whether a clause of these words is too long.
+fn are_long(alloc: Global, words: &[&[u8]]) -> Result<bool, Memory>
+    ensures { IfOk result (λ long. IsTrue long ↔ IsLong (tokens_in (map (λ w. w.now) words.now))) }
+{
+    let tokens = tokens_of(alloc, words)?;
+    Ok(is_long(&tokens))
+}
+
+/// The open kind with one more clause.
+fn with_formula(reader: Reader, formula: Formula) -> Result<Reader, AllocError>
+    requires { IsSoundState (state_of reader) }
+    ensures grown { IfOk result (λ r. state_of r ≡ record { parts = (state_of reader).parts; group = with_form (group_of reader.place) (form_of formula) }) }
+    ensures sound { IfOk result (λ r. IsSoundState (state_of r)) }
+{
+    let Reader {
+        roles,
+        kinds,
+        processes,
+        edges,
+        place,
+    } = reader;
+    let place = with_form(place, formula)?;
+    Ok(Reader {
+        roles,
+        kinds,
+        processes,
+        edges,
+        place,
+    })
+}
+
+fn with_form(place: Place, formula: Formula) -> Result<Place, AllocError>
+    ensures { IfOk result (λ p. group_of p ≡ with_form (group_of place) (form_of formula)) }
+{
+    match place {
+        Place::InKind {
+            name,
+            role_a,
+            role_b,
+            mut clauses,
+        } => {
+            clauses.push(formula)?;
+            Ok(Place::InKind {
+                name,
+                role_a,
+                role_b,
+                clauses,
+            })
+        }
+        other => Ok(other),
+    }
+}

@@ -1,0 +1,80 @@
+ghost use Rattle.std.specs.Prelude.{◌≡◌, ◌↔◌, ◌≤◌, ◌++◌, ◌∷◌, [], IsTrue, IfOk, Contains};
+ghost use Rattle.ctl_text.specs.Value.{degree_of, AreJoined};
+
+use crate::Edge;
+use crate::beside::Beside;
+use std::alloc::{AllocError, Global};
+use std::marker::Model;
+
+/// The edges that are declared so far, to be found by their processes.
+#[derive(Drop)]
+pub(crate) struct Edges {
+    list: Vec<Edge>,
+    beside: Beside,
+}
+
+impl Model for Edges {
+    ghost use Rattle.std.specs.Prelude.{List};
+    ghost use Rattle.ctl_text.specs.declared.network.Edge.{Edge};
+    ghost use Rattle.ctl_text.specs.EdgeTable.{IsBeside};
+
+    ghost Value = { List Edge };
+
+    ghost view = { λ e. e.list.items };
+
+    ghost invariant = { λ e. IsBeside e.list.items e.beside };
+}
+
+impl Edges {
+    pub(crate) fn new(alloc: Global) -> Edges
+        ensures { result ≡ [] }
+    {
+        Edges {
+            list: Vec::new(alloc),
+            beside: Beside::new(alloc),
+        }
+    }
+
+    /// The edges with one more.
+    pub(crate) fn with(self, alloc: Global, edge: Edge) -> Result<Edges, AllocError>
+        ensures { IfOk result (λ made. made ≡ self ++ edge ∷ []) }
+    {
+        let Edges {
+            mut list,
+            mut beside,
+        } = self;
+        list.push(edge)?;
+        beside.push(alloc, edge.a, edge.b)?;
+        if edge.a == edge.b {
+            return Ok(Edges { list, beside });
+        }
+        beside.push(alloc, edge.b, edge.a)?;
+        Ok(Edges { list, beside })
+    }
+
+    pub(crate) fn into_vec(self) -> Vec<Edge>
+        ensures { result.items ≡ self }
+    {
+        self.list
+    }
+
+    /// Whether an edge is between the two processes. Linear in the edges of one.
+    pub(crate) fn are_joined(&self, p: u32, q: u32) -> bool
+        ensures { IsTrue result ↔ AreJoined self.now p q }
+    {
+        has(self.beside.list(p), q)
+    }
+
+    /// Whether the process has 32 edges.
+    pub(crate) fn is_full(&self, process: u32) -> bool
+        ensures { IsTrue result ↔ (32 ≤ degree_of self.now process) }
+    {
+        self.beside.list(process).len() >= 32
+    }
+}
+
+fn has(list: &[u32], process: u32) -> bool
+    ensures { IsTrue result ↔ Contains list.now process }
+{
+    list.contains(&process)
+}

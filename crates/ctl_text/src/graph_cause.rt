@@ -1,0 +1,190 @@
+ghost use Rattle.std.specs.Prelude.{◌≡◌, ◌↔◌, ◌<◌, ◌≤◌, ℕ, IsTrue, IfSome, IfNone, Contains, length};
+ghost use Rattle.ctl_text.specs.Value.{role_names, kind_names, process_names, number_in, process_at, kind_at};
+ghost use Rattle.ctl_text.specs.Cause.{IsLowest, IsFree, NameStands, KindStands, ProcessStands, JoinStands, EdgeStands, IsCrowded, IsFirstCrowded, AreOfKind};
+
+use crate::edges::Edges;
+use crate::names::{has_kind, has_process, has_role, kind_number, process_number};
+use crate::processes::Processes;
+use crate::{Process, TextCause};
+use ctl_form::PairSpec;
+use pair_structure::Role;
+
+const MAX_KINDS: usize = 16;
+
+const MAX_PROCESSES: usize = 1024;
+
+/// What stands against a kind of this name over these roles.
+pub(crate) fn kind_cause(
+    roles: &[Role],
+    kinds: &[PairSpec],
+    name: &[u8],
+    a: &[u8],
+    b: &[u8],
+) -> Option<TextCause>
+    ensures some { IfSome result (IsLowest (KindStands roles.now kinds.now name.now a.now b.now)) }
+    ensures none { IfNone result (IsFree (KindStands roles.now kinds.now name.now a.now b.now)) }
+{
+    if !has_role(roles, a) {
+        return Some(TextCause::UnknownName);
+    }
+    if !has_role(roles, b) {
+        return Some(TextCause::UnknownName);
+    }
+    kind_name_cause(kinds, name)
+}
+
+fn kind_name_cause(kinds: &[PairSpec], name: &[u8]) -> Option<TextCause>
+    ensures some { IfSome result (IsLowest (NameStands (kind_names kinds.now) 16 name.now)) }
+    ensures none { IfNone result (IsFree (NameStands (kind_names kinds.now) 16 name.now)) }
+{
+    if has_kind(kinds, name) {
+        return Some(TextCause::Twice);
+    }
+    if kinds.len() >= MAX_KINDS {
+        return Some(TextCause::TooMany { limit: 16 });
+    }
+    None
+}
+
+/// What stands against a process of this name and role.
+pub(crate) fn process_cause(
+    roles: &[Role],
+    processes: &Processes,
+    name: &[u8],
+    role: &[u8],
+) -> Option<TextCause>
+    ensures some { IfSome result (IsLowest (ProcessStands roles.now processes.now name.now role.now)) }
+    ensures none { IfNone result (IsFree (ProcessStands roles.now processes.now name.now role.now)) }
+{
+    if !has_role(roles, role) {
+        return Some(TextCause::UnknownName);
+    }
+    process_name_cause(processes, name)
+}
+
+fn process_name_cause(processes: &Processes, name: &[u8]) -> Option<TextCause>
+    ensures some { IfSome result (IsLowest (NameStands (process_names processes.now) 1024 name.now)) }
+    ensures none { IfNone result (IsFree (NameStands (process_names processes.now) 1024 name.now)) }
+{
+    if has_process(processes, name) {
+        return Some(TextCause::Twice);
+    }
+    if processes.as_slice().len() >= MAX_PROCESSES {
+        return Some(TextCause::TooMany { limit: 1024 });
+    }
+    None
+}
+
+/// What stands against an edge of this kind between these processes.
+pub(crate) fn edge_cause(
+    processes: &Processes,
+    kinds: &[PairSpec],
+    edges: &Edges,
+    p: &[u8],
+    q: &[u8],
+    kind: &[u8],
+) -> Option<TextCause>
+    requires { length processes.now ≤ 1024 }
+    ensures some { IfSome result (IsLowest (EdgeStands processes.now kinds.now edges.now p.now q.now kind.now)) }
+    ensures none { IfNone result (IsFree (EdgeStands processes.now kinds.now edges.now p.now q.now kind.now)) }
+{
+    if !has_process(processes, p) {
+        return Some(TextCause::UnknownName);
+    }
+    if !has_process(processes, q) {
+        return Some(TextCause::UnknownName);
+    }
+    if !has_kind(kinds, kind) {
+        return Some(TextCause::UnknownName);
+    }
+    let p = process_number(processes, p) as u32;
+    let q = process_number(processes, q) as u32;
+    let kind = kind_number(kinds, kind);
+    join_cause(processes.as_slice(), kinds, edges, p, q, kind)
+}
+
+fn join_cause(
+    processes: &[Process],
+    kinds: &[PairSpec],
+    edges: &Edges,
+    p: u32,
+    q: u32,
+    kind: usize,
+) -> Option<TextCause>
+    ensures some { IfSome result (IsLowest (JoinStands processes.now kinds.now edges.now p q kind)) }
+    ensures none { IfNone result (IsFree (JoinStands processes.now kinds.now edges.now p q kind)) }
+{
+    if p == q {
+        return Some(TextCause::SelfEdge);
+    }
+    if edges.are_joined(p, q) {
+        return Some(TextCause::EdgeTwice);
+    }
+    if let Some(process) = crowded(edges, p, q) {
+        return Some(TextCause::DegreeOver { process });
+    }
+    if !are_of_kind(processes, kinds, p, q, kind) {
+        return Some(TextCause::RoleMismatch);
+    }
+    None
+}
+
+/// Of the two processes the lower one that has 32 edges.
+fn crowded(edges: &Edges, p: u32, q: u32) -> Option<u32>
+    ensures some { IfSome result (IsFirstCrowded edges.now p q) }
+    ensures none { IfNone result ((k : ℕ) → IsCrowded edges.now p q k → ⊥) }
+{
+    if p <= q {
+        first_crowded(edges, p, q)
+    } else {
+        first_crowded(edges, q, p)
+    }
+}
+
+fn first_crowded(edges: &Edges, low: u32, high: u32) -> Option<u32>
+    requires { low ≤ high }
+    ensures some { IfSome result (IsFirstCrowded edges.now low high) }
+    ensures none { IfNone result ((k : ℕ) → IsCrowded edges.now low high k → ⊥) }
+{
+    if edges.is_full(low) {
+        return Some(low);
+    }
+    if edges.is_full(high) {
+        return Some(high);
+    }
+    None
+}
+
+/// Whether the processes have the roles of the kind's sides.
+fn are_of_kind(processes: &[Process], kinds: &[PairSpec], p: u32, q: u32, kind: usize) -> bool
+    ensures { IsTrue result ↔ AreOfKind processes.now kinds.now p q kind }
+{
+    role_of(processes, p) == side_a(kinds, kind) && role_of(processes, q) == side_b(kinds, kind)
+}
+
+fn role_of(processes: &[Process], k: u32) -> u8
+    ensures { result ≡ (process_at processes.now k).role }
+{
+    match processes.get(k as usize) {
+        Some(process) => process.role,
+        None => 0,
+    }
+}
+
+fn side_a(kinds: &[PairSpec], kind: usize) -> u8
+    ensures { result ≡ (kind_at kinds.now kind).role_a }
+{
+    match kinds.get(kind) {
+        Some(kind) => kind.role_a,
+        None => 0,
+    }
+}
+
+fn side_b(kinds: &[PairSpec], kind: usize) -> u8
+    ensures { result ≡ (kind_at kinds.now kind).role_b }
+{
+    match kinds.get(kind) {
+        Some(kind) => kind.role_b,
+        None => 0,
+    }
+}

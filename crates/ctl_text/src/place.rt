@@ -1,0 +1,79 @@
+ghost use Rattle.std.specs.Prelude.{◌↔◌, IsTrue};
+ghost use Rattle.ctl_text.specs.State.{MayStand, among_kinds};
+ghost use Rattle.ctl_text.specs.View.{group_of, said};
+
+use crate::edges::Edges;
+use crate::item::Item;
+use crate::processes::Processes;
+use ctl_form::{Formula, PairSpec};
+use pair_structure::{LocalArc, Name, Role};
+
+/// Which group of lines is open, with what an open role or kind has so far.
+#[derive(Drop)]
+pub(crate) enum Place {
+    BeforeHead,
+    AmongRoles,
+    InLocals {
+        name: Name,
+        locals: Vec<Name>,
+    },
+    InArcs {
+        name: Name,
+        locals: Vec<Name>,
+        start: u8,
+        arcs: Vec<LocalArc>,
+    },
+    AmongKinds,
+    InKind {
+        name: Name,
+        role_a: u8,
+        role_b: u8,
+        clauses: Vec<Formula>,
+    },
+    AmongProcesses,
+    AmongEdges,
+    AfterDone,
+}
+
+/// What has been declared so far, and the open group.
+#[derive(Drop)]
+pub(crate) struct Reader {
+    pub roles: Vec<Role>,
+    pub kinds: Vec<PairSpec>,
+    pub processes: Processes,
+    pub edges: Edges,
+    pub place: Place,
+}
+
+/// Whether the line may stand there.
+pub(crate) fn may_stand(place: &Place, item: Item<'_>) -> bool
+    ensures { IsTrue result ↔ MayStand (group_of place.now) (said item.entry) }
+{
+    match place {
+        Place::BeforeHead => matches!(item, Item::Head),
+        Place::AmongRoles => matches!(item, Item::Role(_)) || may_follow_roles(item),
+        Place::InLocals { locals, .. } => match item {
+            Item::Local(_) => true,
+            Item::Start(_) => !locals.is_empty(),
+            _ => false,
+        },
+        Place::InArcs { .. } => matches!(item, Item::Arc { .. } | Item::End),
+        Place::AmongKinds => may_follow_roles(item),
+        Place::InKind { .. } => matches!(item, Item::End),
+        Place::AmongProcesses => {
+            matches!(item, Item::Process { .. } | Item::Edge { .. } | Item::Done)
+        }
+        Place::AmongEdges => matches!(item, Item::Edge { .. } | Item::Done),
+        Place::AfterDone => false,
+    }
+}
+
+/// Whether the line may stand after the roles.
+fn may_follow_roles(item: Item<'_>) -> bool
+    ensures { IsTrue result ↔ MayStand among_kinds (said item.entry) }
+{
+    matches!(
+        item,
+        Item::Kind { .. } | Item::Process { .. } | Item::Edge { .. } | Item::Done
+    )
+}

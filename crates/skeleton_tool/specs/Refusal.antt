@@ -1,0 +1,41 @@
+-- The printed text of a specification that is refused, and of one that asks for more than AG of propositions.
+use Rattle.std.specs.Prelude.{ℕ, ◌≡◌, ◌++◌, true, List, All, codes, decimal}
+use Rattle.ctl_form.specs.declared.pair_spec.PairSpec.{PairSpec}
+use Rattle.ctl_text.specs.declared.cause.TextCause.{TextCause}
+use Rattle.ctl_text.specs.declared.cause.TextCause.TheVariants.{NotText, BadHead, Long, BadLine, UnknownName, Twice, SelfArc, NoArc, TooMany, ClosureOver, SelfEdge, EdgeTwice, DegreeOver, RoleMismatch, NotAPair, NotRising, Disagree}
+use Rattle.skeleton_tool.specs.Proposition.{is_plain}
+
+-- the name of a cause, without its fields
+abbrev pub cause_word : TextCause → List ℕ
+cause_word NotText = codes "NotText"
+cause_word BadHead = codes "BadHead"
+cause_word Long = codes "Long"
+cause_word BadLine = codes "BadLine"
+cause_word UnknownName = codes "UnknownName"
+cause_word Twice = codes "Twice"
+cause_word SelfArc = codes "SelfArc"
+cause_word (NoArc p) = codes "NoArc"
+cause_word (TooMany limit) = codes "TooMany"
+cause_word ClosureOver = codes "ClosureOver"
+cause_word SelfEdge = codes "SelfEdge"
+cause_word EdgeTwice = codes "EdgeTwice"
+cause_word (DegreeOver k) = codes "DegreeOver"
+cause_word RoleMismatch = codes "RoleMismatch"
+cause_word (NotAPair fault) = codes "NotAPair"
+cause_word NotRising = codes "NotRising"
+cause_word Disagree = codes "Disagree"
+
+-- the line, counted from 1, and the cause
+abbrev pub refused_text : ℕ → TextCause → List ℕ
+refused_text line cause = codes "refused spec " ++ decimal line ++ codes " " ++ cause_word cause ++ codes "\n"
+
+abbrev pub only_always_text : List ℕ
+only_always_text = codes "refused spec 0 OnlyAlways\n"
+
+-- each clause of the kind is AG of a proposition
+abbrev pub IsPlainKind : PairSpec → Type 0
+IsPlainKind kind = All (λ f. is_plain f ≡ true) kind.clauses
+
+-- each clause of each kind is AG of a proposition
+abbrev pub ArePlain : List PairSpec → Type 0
+ArePlain = All IsPlainKind

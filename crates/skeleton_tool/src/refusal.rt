@@ -1,0 +1,48 @@
+ghost use Rattle.std.specs.Prelude.{◌≡◌, ◌++◌, OnOk};
+ghost use Rattle.skeleton_tool.specs.Refusal.{cause_word, refused_text};
+
+use ctl_text::TextCause;
+use itoa::Buffer;
+use std::alloc::AllocError;
+
+/// Appends the text of a specification that is refused: its first bad line and the cause.
+pub(crate) fn write_refused(
+    line: u64,
+    cause: TextCause,
+    into: &mut Vec<u8>,
+) -> Result<(), AllocError>
+    ensures { OnOk result (into.new.items ≡ into.old.items ++ refused_text line cause) }
+{
+    let mut buffer = Buffer::new();
+    into.extend_from_slice(b"refused spec ")?;
+    into.extend_from_slice(buffer.format(line).as_bytes())?;
+    into.extend_from_slice(b" ")?;
+    into.extend_from_slice(cause_word(cause).as_bytes())?;
+    into.extend_from_slice(b"\n")?;
+    Ok(())
+}
+
+/// The name of a cause, without its fields.
+fn cause_word(cause: TextCause) -> &'static str
+    ensures { result.now ≡ cause_word cause }
+{
+    match cause {
+        TextCause::NotText => "NotText",
+        TextCause::BadHead => "BadHead",
+        TextCause::Long => "Long",
+        TextCause::BadLine => "BadLine",
+        TextCause::UnknownName => "UnknownName",
+        TextCause::Twice => "Twice",
+        TextCause::SelfArc => "SelfArc",
+        TextCause::NoArc { .. } => "NoArc",
+        TextCause::TooMany { .. } => "TooMany",
+        TextCause::ClosureOver => "ClosureOver",
+        TextCause::SelfEdge => "SelfEdge",
+        TextCause::EdgeTwice => "EdgeTwice",
+        TextCause::DegreeOver { .. } => "DegreeOver",
+        TextCause::RoleMismatch => "RoleMismatch",
+        TextCause::NotAPair { .. } => "NotAPair",
+        TextCause::NotRising => "NotRising",
+        TextCause::Disagree => "Disagree",
+    }
+}
