@@ -2,8 +2,8 @@
 #![tactic(auto)]
 
 mod closure;
-mod found;
 mod expanding;
+mod found;
 mod laws;
 mod marks;
 mod row;
