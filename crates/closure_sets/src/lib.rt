@@ -7,6 +7,10 @@ mod found;
 mod laws;
 mod marks;
 mod row;
+#[cfg(test)]
+mod samples;
+#[cfg(test)]
+mod tests;
 mod ways;
 
 pub use closure::Closure;
