@@ -29,7 +29,7 @@ IsCarried c row side h seed = (j : ℕ) → Has seed j ↔ ((j ≡ h) ⊎ ((x : 
 
 -- the node without a side, with the starts, and the roots of all conjuncts
 pub record IsRoot (t : TableauParts) (node : OrNode) : Type 0 where
-  pub side : node.side ≡ None
+  pub sided : node.side ≡ None
   pub origin : origin_of node ≡ (t.a.start, t.b.start)
   pub seed : (j : ℕ) → Has (seed_of node) j ↔ Contains t.closure.roots j
 
@@ -50,7 +50,7 @@ pub record AreChildren (t : TableauParts) (node : OrNode) (numbers : List ℕ) :
 
 -- the OR node that an AND node's EXs h leads to
 pub record IsSuccessor (c : ClosureParts) (node : AndNode) (side : Side) (h : ℕ) (successor : OrNode) : Type 0 where
-  pub side : successor.side ≡ Some side
+  pub sided : successor.side ≡ Some side
   pub origin : origin_of successor ≡ pair_of node
   pub seed : IsCarried c (row_of node) side h (seed_of successor)
 
