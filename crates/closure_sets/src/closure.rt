@@ -86,8 +86,22 @@ impl Closure {
         find_in(&self.parts, part)
     }
 
-    /// The next-time of this side of an until.
-    pub(crate) fn after(&self, side: Side, member: u32) -> u32
+    /// An equal closure.
+    pub fn copy(&self, alloc: Global) -> Result<Closure, Memory>
+        ensures { IfOk result (λ c. c ≡ self.now) }
+    {
+        Ok(Closure {
+            parts: Vec::from_slice(alloc, &self.parts)?,
+            roots: Vec::from_slice(alloc, &self.roots)?,
+            after_a: Vec::from_slice(alloc, &self.after_a)?,
+            after_b: Vec::from_slice(alloc, &self.after_b)?,
+            some_a: self.some_a,
+            some_b: self.some_b,
+        })
+    }
+
+    /// The next-time of this side of an until: AXs of an `A` until, EXs of an `E` until.
+    pub fn after(&self, side: Side, member: u32) -> u32
         requires { member < length self.now.parts }
         ensures { result ≡ after self.now side member }
     {
@@ -98,7 +112,7 @@ impl Closure {
     }
 
     /// EXs true.
-    pub(crate) fn some_move(&self, side: Side) -> u32
+    pub fn some_move(&self, side: Side) -> u32
         ensures same { result ≡ some_move self.now side }
         ensures member { result < length self.now.parts }
         ensures closure { IsClosureParts self.now }
