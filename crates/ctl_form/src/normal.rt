@@ -3,6 +3,7 @@ ghost use Rattle.ctl_form.specs.Closure.{opening, IsGrown};
 ghost use Rattle.ctl_form.specs.Form.{form_of};
 ghost use Rattle.ctl_form.specs.Members.{part_at, forms_of};
 ghost use Rattle.ctl_form.specs.MemberTable.{IsNumbering, IsFaultOf};
+ghost use Rattle.ctl_form.specs.NormalParts.{AreNormalParts};
 ghost use Rattle.ctl_form.specs.Numbered.{IsNormalOf, IsRefusalOf, normals};
 ghost use Rattle.ctl_form.specs.Roots.{AreRoots};
 ghost use Rattle.ctl_form.specs.Walk.{walk_all};
@@ -22,14 +23,13 @@ pub struct Normal {
 }
 
 impl Model for Normal {
-    ghost use Rattle.std.specs.Prelude.{◌<◌, All, length};
-    ghost use Rattle.ctl_form.specs.NormalParts.{NormalParts};
+    ghost use Rattle.ctl_form.specs.NormalParts.{NormalParts, AreNormalParts};
 
     ghost Value = { NormalParts };
 
     ghost view = { λ n. record { parts = n.members; roots = n.roots.items } };
 
-    ghost invariant = { λ n. All (λ root. root < length n.members) n.roots.items };
+    ghost invariant = { λ n. AreNormalParts n.members n.roots.items };
 }
 
 impl Normal {
@@ -49,6 +49,7 @@ impl Normal {
     pub fn count(&self) -> u32
         ensures count { result ≡ length self.now.parts }
         ensures numbering { IsNumbering self.now.parts }
+        ensures closed { AreNormalParts self.now.parts self.now.roots }
     {
         self.members.parts().len() as u32
     }

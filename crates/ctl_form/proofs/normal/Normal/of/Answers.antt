@@ -23,3 +23,10 @@ returns c =
     let conjuncts : List Form = map form_of c.args.conjuncts.now in
     let n : NormalParts = record { parts = c.roots_of.new.members; roots = c.in_ok-roots.roots.items } in
     normal_of conjuncts n c.in_ok-members.members c.parts-numbered.ensures.numbering c.in_ok-members.ensures c.in_ok-roots.ensures
+
+pub invariant_of-result : goal.invariant_of-result
+invariant_of-result c =
+    let conjuncts : List Form = map form_of c.args.conjuncts.now in
+    let n : NormalParts = record { parts = c.roots_of.new.members; roots = c.in_ok-roots.roots.items } in
+    let kept : IsNormalOf conjuncts n = normal_of conjuncts n c.in_ok-members.members c.parts-numbered.ensures.numbering c.in_ok-members.ensures c.in_ok-roots.ensures in
+    record { opens = kept.closure.closed.opens; grown = kept.closure.closed.grown; rooted = c.in_ok-roots.ensures.members }

@@ -1,0 +1,12 @@
+pub mod AtState
+pub mod Closures
+pub mod Covers
+pub mod FoundLaws
+pub mod FullRows
+pub mod Labels
+pub mod Lowest
+pub mod MarkLaws
+pub mod NotedLaws
+pub mod Parts
+pub mod Sets
+pub mod Words

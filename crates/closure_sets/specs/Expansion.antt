@@ -1,0 +1,72 @@
+-- The expansion of a row: its members are treated, the lowest first, until each is met.
+use Rattle.std.specs.Prelude.{ℕ, zero, suc, Bool, true, false, ◌||◌, ◌&&◌, not, Option, Some, None, List, [], ◌∷◌, ◌++◌, is_some}
+use Rattle.pair_structure.specs.declared.side.Side.TheVariants.{A, B}
+use Rattle.ctl_form.specs.declared.part.Part.{Part}
+use Rattle.ctl_form.specs.declared.part.Part.TheVariants.{Yes, No, Lit, Both, Either, Next, Until}
+use Rattle.closure_sets.specs.ClosureParts.{ClosureParts, count, after, some_move}
+use Rattle.closure_sets.specs.Label.{part_of, is_plain, wrong_of}
+use Rattle.closure_sets.specs.Row.{Members, add}
+
+abbrev pub pick : Bool → List Members → List Members → List Members
+pick true xs ys = xs
+pick false xs ys = ys
+
+-- the rows of an until that is not met now
+abbrev pub later_rows : ClosureParts → Bool → Members → ℕ → ℕ → List Members
+later_rows c true row m f = add (add (add row f) (after c A m)) (after c B m) ∷ []
+later_rows c false row m f = add (add row f) (after c A m) ∷ add (add row f) (after c B m) ∷ []
+
+-- the rows in which a member is treated; easy: a propositional member that the label makes true
+abbrev pub ways : ClosureParts → (ℕ → Bool) → Members → ℕ → Part → List Members
+ways c easy row m (Both f g) = add (add row f) g ∷ []
+ways c easy row m (Either f g) = pick (row f || row g) (row ∷ []) (pick (easy f) (add row f ∷ []) (pick (easy g) (add row g ∷ []) (add row f ∷ add row g ∷ [])))
+ways c easy row m (Until all weak f g) = pick (row g) (row ∷ []) (pick (easy g) (add row g ∷ []) (add row g ∷ later_rows c all row m f))
+ways c easy row m Yes = row ∷ []
+ways c easy row m No = row ∷ []
+ways c easy row m (Lit side local is) = row ∷ []
+ways c easy row m (Next all side f) = row ∷ []
+
+abbrev pub or_last : Option ℕ → ℕ → Bool → Option ℕ
+or_last (Some i) n b = Some i
+or_last None n true = Some n
+or_last None n false = None
+
+-- the lowest number below n that passes the test
+abbrev pub lowest : ℕ → (ℕ → Bool) → Option ℕ
+lowest zero p = None
+lowest (suc n) p = or_last (lowest n p) n (p n)
+
+-- a member of the row that is not treated
+abbrev pub is_open : Members → Members → ℕ → Bool
+is_open row treated i = row i && not (treated i)
+
+-- members of both sets
+abbrev pub is_shared : Members → Members → ℕ → Bool
+is_shared row others i = row i && others i
+
+abbrev pub rows_of : (Members → List Members) → List Members → List Members
+rows_of f [] = []
+rows_of f (r ∷ rs) = f r ++ rows_of f rs
+
+-- a row whose members are all treated: it asks for a move
+abbrev pub finish : ClosureParts → Members → List Members
+finish c row = pick (row (some_move c A) || row (some_move c B)) (row ∷ []) (add row (some_move c A) ∷ add row (some_move c B) ∷ [])
+
+abbrev pub at_lowest : Option ℕ → List Members → (ℕ → List Members) → List Members
+at_lowest None done f = done
+at_lowest (Some m) done f = f m
+
+-- at most d members are still to be treated; clash: the row has 'false' or a literal that the label makes false
+abbrev pub expand : ClosureParts → (ℕ → Bool) → (Members → Bool) → ℕ → Members → Members → List Members
+expand c easy clash zero row treated = pick (clash row) [] (finish c row)
+expand c easy clash (suc d) row treated = pick (clash row) [] (at_lowest (lowest (count c) (is_open row treated)) (finish c row) (λ m. rows_of (λ r. expand c easy clash d r (add treated m)) (ways c easy row m (part_of c m))))
+
+abbrev pub clashes : ClosureParts → ℕ × ℕ → Members → Bool
+clashes c label row = is_some (lowest (count c) (is_shared row (wrong_of c label)))
+
+abbrev pub no_members : Members
+no_members i = false
+
+-- the expansion of a seed at a label
+abbrev pub expansion : ClosureParts → ℕ × ℕ → Members → List Members
+expansion c label seed = expand c (is_plain c label) (clashes c label) (count c) seed no_members

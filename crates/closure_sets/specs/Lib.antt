@@ -1,0 +1,10 @@
+pub mod ClosureParts
+pub mod Cover
+pub mod Expansion
+pub mod Firsts
+pub mod Found
+pub mod Full
+pub mod Label
+pub mod Marks
+pub mod Row
+pub mod Ways

@@ -1,0 +1,13 @@
+//! Laws of the expansion, stated where the crates above can cite them; their bodies do nothing.
+
+ghost use Rattle.closure_sets.specs.Cover.{ExpansionIsFull, ExpansionCovers};
+
+/// The rows of an expansion are fully expanded.
+pub fn expansion_is_full()
+    ensures { ExpansionIsFull }
+{}
+
+/// The rows of an expansion cover.
+pub fn expansion_covers()
+    ensures { ExpansionCovers }
+{}

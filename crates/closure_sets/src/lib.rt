@@ -1,0 +1,19 @@
+//! Rows of a closure's members that cover what the states of a pair structure make true.
+#![tactic(auto)]
+
+mod closure;
+mod expanding;
+mod found;
+mod laws;
+mod marks;
+mod row;
+#[cfg(test)]
+mod samples;
+#[cfg(test)]
+mod tests;
+mod ways;
+
+pub use closure::Closure;
+pub use expanding::full_rows;
+pub use laws::{expansion_covers, expansion_is_full};
+pub use row::Row;

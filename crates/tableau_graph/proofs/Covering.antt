@@ -1,0 +1,59 @@
+-- A tableau's children cover what states make true.
+use Rattle.std.proofs.Common.{ℕ, zero, suc, ◌≡◌, ◌⊎◌, ◌<◌, inl, inr, Option, Some, None, List, [], ◌∷◌, length, refl, subst, sym, ◌∙◌, ap, arith, slice_index_or, slice_get, Contains}
+use Rattle.std.proofs.lemmas.List.Elements.{All-contains}
+use Rattle.std.proofs.lemmas.Option.{slice_get-get_or, slice_get_within, get_or_from_slice_get}
+use Rattle.pair_structure.specs.Role.{RoleParts}
+use Rattle.pair_structure.specs.Structure.{Structure, HasMove, IsOver, IsLawfulMove, OtherStays, TakesArc, label_at}
+use Rattle.pair_structure.specs.declared.side.Move.{Move}
+use Rattle.pair_structure.specs.declared.side.Side.{Side}
+use Rattle.closure_sets.specs.ClosureParts.{ClosureParts}
+use Rattle.closure_sets.specs.Cover.{ExpansionCovers, IsChosen, IsMetRow, IsTrueAt, HoldsWhole}
+use Rattle.closure_sets.specs.Expansion.{expansion}
+use Rattle.closure_sets.specs.Full.{EachRow, Among}
+use Rattle.closure_sets.specs.Row.{Members}
+use Rattle.tableau_graph.specs.Graph.{Graph, graph_of, HasChild, HasMetChild, TableauCovers, TableauRootCovers}
+use Rattle.tableau_graph.specs.Rules.{Follows, LeadsTo, IsTableau}
+use Rattle.tableau_graph.specs.TableauParts.{TableauParts, or_at, seed_of, origin_of, next_or}
+use Rattle.tableau_graph.proofs.Expanded.{tableau_has_children}
+
+both_of : (X Y : Members → Type 0) (rows : List Members) → Among X rows → EachRow Y rows → (row : Members) × X row × Y row
+both_of X Y [] h k = absurd h
+both_of X Y (r ∷ rows) (inl x) k = (r, x, k.0)
+both_of X Y (r ∷ rows) (inr h) k = both_of X Y rows h k.1
+
+-- rows that cover, each of them a child's, give a child that is met
+met_child : (c : ClosureParts) (g : Graph) (m : Structure) (o s : ℕ) (label : ℕ × ℕ) (chosen : ℕ → Side) (rows : List Members) → slice_get m.states s ≡ Some label → Among (IsMetRow c chosen (IsTrueAt m c s)) rows → EachRow (HasChild g o label) rows → HasMetChild c g m chosen o s
+met_child c g m o s label chosen rows at cover each =
+    let v = both_of (IsMetRow c chosen (IsTrueAt m c s)) (HasChild g o label) rows cover each in
+    let same = v.2 in
+    (same.0, same.1, at ∙ ap (λ (l : ℕ × ℕ). Some l) (sym same.2), subst (IsMetRow c chosen (IsTrueAt m c s)) (sym same.3) v.1)
+
+-- where a move of this side leads from a state with this label
+follows_move : (a b : RoleParts) (m : Structure) → IsOver a b m → (side : Side) (s t : ℕ) (from : ℕ × ℕ) → slice_get m.states s ≡ Some from → HasMove m side s t → Follows a b side from (label_at m.states t)
+follows_move a b m over side s t from at step =
+    let move : Move = record { from = s; side = side; to = t } in
+    let lawful : IsLawfulMove a b m.states move = All-contains (IsLawfulMove a b m.states) m.moves move over.lawful step in
+    let same : label_at m.states s ≡ from = get_or_from_slice_get m.states s from (0, 0) at in
+    subst (λ l. Follows a b side l (label_at m.states t)) same (lawful.arc, lawful.stays)
+
+pub tableau_covers : ExpansionCovers → TableauCovers
+tableau_covers covers t k m over n i h side is s s' at step holds chosen lawful =
+    let lt : s' < length m.states = over.goes_on.within side s s' step in
+    let label : ℕ × ℕ = label_at m.states s' in
+    let seed : Members = seed_of (or_at t.ors (next_or t n i)) in
+    let follows : Follows t.a t.b side ((graph_of t).label n) label = follows_move t.a t.b m over side s s' ((graph_of t).label n) at step in
+    met_child t.closure (graph_of t) m (next_or t n i) s' label chosen (expansion t.closure label seed) (slice_get-get_or m.states s' (0, 0) lt) (covers t.closure label seed k.rules.closure m over.goes_on s' lt refl holds chosen lawful) (tableau_has_children t k n i h side is label follows)
+
+root_reached : (a b : RoleParts) (found : Option Side) (origin to : ℕ × ℕ) → found ≡ None → to ≡ origin → LeadsTo a b found origin to
+root_reached a b found origin to e same = subst (λ o. LeadsTo a b o origin to) (sym e) same
+
+pub tableau_root_covers : ExpansionCovers → TableauRootCovers
+tableau_root_covers covers t k m over holds chosen lawful =
+    let start : ℕ × ℕ = (t.a.start, t.b.start) in
+    let lt : 0 < length m.states = slice_get_within m.states 0 start over.start in
+    let label : label_at m.states 0 ≡ start = get_or_from_slice_get m.states 0 start (0, 0) over.start in
+    let seed : Members = seed_of (or_at t.ors 0) in
+    let some : 0 < length t.ors = k.rules.some in
+    let same : length t.children ≡ length t.ors = k.all_ors in
+    let leads : LeadsTo t.a t.b (or_at t.ors 0).side (origin_of (or_at t.ors 0)) start = root_reached t.a t.b (or_at t.ors 0).side (origin_of (or_at t.ors 0)) start k.rules.root.sided (sym k.rules.root.origin) in
+    met_child t.closure (graph_of t) m 0 0 start chosen (expansion t.closure start seed) over.start (covers t.closure start seed k.rules.closure m over.goes_on 0 lt label holds chosen lawful) ((k.rules.children 0 (omega (arith, some, same))).all start leads)
