@@ -30,7 +30,8 @@ last_word (b ∷ line) none =
 pub cut_none : (line : List ℕ) → position (λ b. b == 32) line ≡ None → words_of line ≡ line ∷ []
 cut_none line e = last_word line (none_passes (λ b. b == 32) line e)
 
-words_some : (line : List ℕ) → 0 < length (words_of line)
+-- each line has a word
+pub words_some : (line : List ℕ) → 0 < length (words_of line)
 words_some [] = omega arith
 words_some (b ∷ line) = elim (b == 32) as (λ t. b == 32 ≡ t → 0 < length (words_of (b ∷ line))) [ true ↦ λ e. rw e (omega arith) | false ↦ λ e. rw e (begun b (words_of line)) ] refl
   where
