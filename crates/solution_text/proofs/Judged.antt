@@ -101,8 +101,12 @@ said_free s line item text may free other (inr (inr (inl h))) = h.1 item may
 said_free s line item text may free other (inr (inr (inr (y, y_may, blocks)))) = free.free other (subst (λ y. Blocks s y other) (says_once _ y item y_may.says may.says) blocks)
 
 pub said_takes : (roles : List RoleParts) (s t : State) (line : Line) (item : Said) → IsStrict line.bytes → MaySay s line item → IsTakenAs roles s item t → Takes roles s line t
-said_takes roles s t line item text may taken = record { free = record { free = said_free s line item text may taken.free }; item = item; may = may; next = taken.next }
+said_takes roles s t line item text may taken = record { free = record { free = said_free s line item text may taken.free }; item = item; may = may; whole = taken.whole; next = taken.next }
 
 -- a line that says what may not stand there says nothing that may
 pub may_not : (s : State) (line : Line) (item : Said) → Says (words_of line.bytes) item → (MayStand s.group s.left item → ⊥) → (other : Said) → MaySay s line other → ⊥
 may_not s line item says barred other may = barred (subst (MayStand s.group s.left) (says_once _ other item may.says says) may.may)
+
+-- where nothing stands against a line, nothing stands against what it says
+pub blocks_stand : (s : State) (line : Line) (item : Said) → MaySay s line item → IsFree (Stands s line) → IsFree (Blocks s item)
+blocks_stand s line item may free = record { free = λ cause blocks. free.free cause (inr (inr (inr (item, may, blocks)))) }

@@ -10,8 +10,8 @@ use Rattle.strict_text.specs.Lines.{Line}
 use Rattle.solution_text.specs.declared.line_fault.LineFault.{LineFault}
 use Rattle.solution_text.specs.declared.line_fault.LineFault.TheVariants.{Bad, Memory as NoMemory}
 use Rattle.solution_text.specs.Item.{Said}
-use Rattle.solution_text.specs.State.{State, MayStand, after}
-use Rattle.solution_text.specs.Cause.{Blocks, MaySay}
+use Rattle.solution_text.specs.State.{State, after}
+use Rattle.solution_text.specs.Cause.{Blocks, EndsWhole}
 use Rattle.solution_text.specs.Text.{IsRefused}
 
 -- both roles of the kind are among so many
@@ -22,6 +22,7 @@ pub record HasRoles (count : ℕ) (kind : PairSpec) : Type 0 where
 -- nothing stands against what the line says, and it leaves this state
 pub record IsTakenAs (roles : List RoleParts) (s : State) (item : Said) (t : State) : Type 0 where
   pub free : IsFree (Blocks s item)
+  pub whole : EndsWhole item s.group
   pub next : t ≡ after roles s item
 
 -- want of memory, or the lowest cause that stands

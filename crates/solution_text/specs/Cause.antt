@@ -3,6 +3,7 @@ use Rattle.std.specs.Prelude.{ℕ, ◌≡◌, ◌≢◌, ◌⊎◌, true, List, 
 use Rattle.pair_structure.specs.declared.structure_fault.StructureFault.{StructureFault}
 use Rattle.pair_structure.specs.declared.side.Move.{Move}
 use Rattle.pair_structure.specs.Role.{RoleParts}
+use Rattle.pair_structure.specs.Structure.{IsPairStructure}
 use Rattle.pair_structure.specs.StructureFault.{IsFirstStructureFault}
 use Rattle.ctl_form.specs.declared.pair_spec.PairSpec.{PairSpec}
 use Rattle.ctl_text.specs.declared.cause.TextCause.{TextCause}
@@ -61,9 +62,20 @@ Stands s line cause =
     ⊎ (((cause ≡ BadLine) × ((item : Said) → MaySay s line item → ⊥))
     ⊎ ((item : Said) × MaySay s line item × Blocks s item cause)))
 
+-- an open group is whole: a kind's states and moves are a structure over its roles
+abbrev pub IsWhole : Group → Type 0
+IsWhole (in_kind a b states moves) = IsPairStructure a b states moves
+IsWhole group = Unit {0}
+
+-- what ends is whole
+abbrev pub EndsWhole : Said → Group → Type 0
+EndsWhole end_line group = IsWhole group
+EndsWhole item group = Unit {0}
+
 -- nothing stands against the line, and it leaves this state
 pub record Takes (roles : List RoleParts) (s : State) (line : Line) (t : State) : Type 0 where
   pub free : IsFree (Stands s line)
   pub item : Said
   pub may : MaySay s line item
+  pub whole : EndsWhole item s.group
   pub next : t ≡ after roles s item

@@ -1,12 +1,13 @@
 ghost use Rattle.std.specs.Prelude.{◌≡◌, ◌↔◌, ◌<◌, ◌≤◌, IsTrue, IfOk, IfErr, IfSome, IfNone, All, Contains, codes, length, position};
 ghost use Rattle.std.specs.Str.{bytes_eq};
+ghost use Rattle.pair_structure.specs.Structure.{IsPairStructure};
 ghost use Rattle.ctl_text.specs.Cause.{IsFree};
 ghost use Rattle.ctl_text.specs.Value.{number_in};
 ghost use Rattle.strict_text.specs.View.{line_of};
 ghost use Rattle.strict_text.specs.Words.{words_of};
 ghost use Rattle.solution_text.specs.Item.{Said, head_line, words_for};
 ghost use Rattle.solution_text.specs.State.{MayStand, opened, behind, with_state, with_move, with_ended};
-ghost use Rattle.solution_text.specs.Cause.{LacksHead, LabelBlocks, PairBlocks, KindBlocks, StateBlocks, EndBlocks, Blocks, Stands, MaySay, Takes};
+ghost use Rattle.solution_text.specs.Cause.{LacksHead, LabelBlocks, PairBlocks, KindBlocks, StateBlocks, EndBlocks, IsWhole, Blocks, Stands, MaySay, Takes};
 ghost use Rattle.solution_text.specs.Answers.{HasRoles, IsTakenAs, IsBadBy};
 ghost use Rattle.solution_text.specs.View.{group_of, state_of, said};
 
@@ -254,6 +255,7 @@ fn with_ended(
 ) -> Result<Vec<PairStructure>, LineFault>
     ensures made { IfOk result (λ r. r.items ≡ with_ended made.items (group_of place.entry)) }
     ensures free { IfOk result (λ r. IsFree (EndBlocks (group_of place.entry))) }
+    ensures whole { IfOk result (λ r. IsWhole (group_of place.entry)) }
     ensures refused { IfErr result (IsBadBy (EndBlocks (group_of place.entry))) }
 {
     match place {
@@ -286,6 +288,7 @@ fn structure_of(
 ) -> Result<PairStructure, LineFault>
     ensures structure { IfOk result (λ m. m ≡ record { states = states.now; moves = moves.now }) }
     ensures free { IfOk result (λ m. IsFree (PairBlocks a.now b.now states.now moves.now)) }
+    ensures whole { IfOk result (λ m. IsPairStructure a.now b.now states.now moves.now) }
     ensures refused { IfErr result (IsBadBy (PairBlocks a.now b.now states.now moves.now)) }
 {
     match PairStructure::make(alloc, a, b, states, moves) {
