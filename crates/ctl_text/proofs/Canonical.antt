@@ -12,7 +12,7 @@ use Rattle.ctl_text.specs.Token.{tokens_of}
 use Rattle.ctl_text.specs.Tree.{signs, signs_of, Fits, tree_form, is_known, AreKnown}
 use Rattle.ctl_text.proofs.CanonicalSigns.{tree_of, text_says}
 
-form_again : (f : Form) → tree_form (tree_of f) ≡ f
+pub form_again : (f : Form) → tree_form (tree_of f) ≡ f
 form_again truth = refl
 form_again falsity = refl
 form_again (at side p) = refl

@@ -4,8 +4,9 @@ use Rattle.std.proofs.lemmas.Bool.{eq-eqb, eqb-true}
 use Rattle.std.proofs.lemmas.List.Elements.{Contains-append_cases, Contains-append_left, Contains-append_right}
 use Rattle.std.proofs.lemmas.Bool.Decides.{nat_tests}
 use Rattle.std.proofs.lemmas.List.Recursion.{is_count_by}
-use Rattle.ctl_text.specs.declared.network.Edge.{Edge}
-use Rattle.ctl_text.specs.Value.{is_at, degree_of, AreJoined}
+use Rattle.interconnection.specs.declared.parts.Edge.{Edge}
+use Rattle.interconnection.specs.Graph.{joins, degree_of}
+use Rattle.ctl_text.specs.Value.{AreJoined}
 use Rattle.ctl_text.specs.EdgeTable.{other_end, beside, IsBeside}
 
 abbrev pub row : List (List ℕ) → ℕ → List ℕ
@@ -23,7 +24,7 @@ one_end false false x y rest = refl
 
 -- as many are beside a process as it has edges
 pub beside-length : (edges : List Edge) (k : ℕ) → length (beside edges k) ≡ degree_of edges k
-beside-length edges k = is_count_by (λ es. length (beside es k)) (is_at k) refl (λ e es. one_end (e.a == k) (e.b == k) e.b e.a (beside es k)) edges
+beside-length edges k = is_count_by (λ es. length (beside es k)) (joins k) refl (λ e es. one_end (e.a == k) (e.b == k) e.b e.a (beside es k)) edges
 
 abbrev Joins : ℕ → ℕ → ℕ → ℕ → Type 0
 Joins a b p q = ((a ≡ p) × (b ≡ q)) ⊎ ((a ≡ q) × (b ≡ p))
@@ -52,13 +53,13 @@ beside_joined (e ∷ edges) p q h = elim (Contains-append_cases (other_end p e) 
 ]
   where
     further : AreJoined edges p q → AreJoined (e ∷ edges) p q
-    further (i, x, lt, is, joins) = (suc i, x, omega arith, is, joins)
+    further (i, x, lt, is, meet) = (suc i, x, omega arith, is, meet)
 
 pub joined_beside : (edges : List Edge) (p q : ℕ) → AreJoined edges p q → Contains (beside edges p) q
-joined_beside [] p q (i, x, lt, is, joins) = absurd (omega arith)
-joined_beside (e ∷ edges) p q (zero, x, lt, is, joins) =
-    Contains-append_left (other_end p e) (beside edges p) q (join_ends e.a e.b p q (e.a == p) (e.b == p) refl refl (subst (λ (x : Edge). Joins x.a x.b p q) (sym is) joins))
-joined_beside (e ∷ edges) p q (suc i, x, lt, is, joins) = Contains-append_right (other_end p e) (beside edges p) q (joined_beside edges p q (i, x, omega arith, is, joins))
+joined_beside [] p q (i, x, lt, is, meet) = absurd (omega arith)
+joined_beside (e ∷ edges) p q (zero, x, lt, is, meet) =
+    Contains-append_left (other_end p e) (beside edges p) q (join_ends e.a e.b p q (e.a == p) (e.b == p) refl refl (subst (λ (x : Edge). Joins x.a x.b p q) (sym is) meet))
+joined_beside (e ∷ edges) p q (suc i, x, lt, is, meet) = Contains-append_right (other_end p e) (beside edges p) q (joined_beside edges p q (i, x, omega arith, is, meet))
 
 one_more : (k a b : ℕ) (t u : Bool) (old new : List ℕ) → (a == k) ≡ t → (b == k) ≡ u → (a ≡ k → new ≡ old ++ b ∷ []) → ((a ≡ k → ⊥) → b ≡ k → new ≡ old ++ a ∷ []) → ((a ≡ k → ⊥) → (b ≡ k → ⊥) → new ≡ old) → new ≡ old ++ cond t (b ∷ []) (cond u (a ∷ []) [])
 one_more k a b true u old new e f first second other = first (eqb-true a k e)

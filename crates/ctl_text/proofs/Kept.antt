@@ -9,13 +9,15 @@ use Rattle.std.specs.List.{list_any}
 use Rattle.pair_structure.specs.declared.side.LocalArc.{LocalArc}
 use Rattle.pair_structure.specs.Role.{RoleParts, JoinsTwo, AreLawful, HasArcFrom}
 use Rattle.ctl_form.specs.declared.pair_spec.PairSpec.{PairSpec}
-use Rattle.ctl_text.specs.declared.network.Process.{Process}
+use Rattle.interconnection.specs.declared.parts.Process.{Process}
 use Rattle.ctl_text.specs.declared.cause.TextCause.TheVariants.{UnknownName, Twice, SelfArc, NoArc, TooMany}
-use Rattle.ctl_text.specs.Cause.{IsFree, NameStands, ArcStands, KindStands, ProcessStands, RoleEndStands}
-use Rattle.ctl_text.specs.Value.{SpecParts, number_in, role_names, kind_names, process_names}
+use Rattle.ctl_text.specs.Cause.{IsFree, NameStands, ArcStands, KindStands, ProcessStands, EdgeStands, RoleEndStands}
+use Rattle.ctl_text.specs.Value.{SpecParts, number_in, role_names, kind_names, kind_ends, process_names}
 use Rattle.ctl_text.specs.Sound.{AreLocals, AreArcs, IsSoundState}
-use Rattle.ctl_text.specs.Item.{end_line, process_line}
+use Rattle.ctl_text.specs.Item.{head_line, end_line, process_line, edge_line, done_line}
 use Rattle.ctl_text.specs.State.{State, Group, in_locals, in_arcs, in_kind, among_processes, before_head, among_roles, among_kinds, among_edges, after_done, MayStand, opened_kind, after}
+use Rattle.ctl_text.proofs.EdgeFits.{edge_named, edge_fits}
+use Rattle.ctl_text.proofs.GraphKept.{role_grown, kind_more, process_grown, edge_grown, degree_grown}
 use Rattle.ctl_text.proofs.Named.{contained, named_at, number_within}
 
 not_over : (n m : ℕ) → (m ≤ n → ⊥) → n < m
@@ -91,6 +93,29 @@ process_room roles processes name r free = let few = not_over (length (process_n
 pub no_locals : (names : List (List ℕ)) → names ≡ [] → AreLocals names
 no_locals names none = rw none (record { few_locals = omega arith; names_differ = λ i j d lt within. absurd (omega arith) })
 
+-- the head, or the last line
+pub head_sound : (s : State) → IsSoundState s → IsSoundState (after s head_line)
+head_sound s h = record {
+  few_roles = (let few = h.few_roles in omega arith);
+  few_kinds = (let few = h.few_kinds in omega arith);
+  few_processes = h.few_processes;
+  group = tt;
+  kind_roles = tt;
+  network = h.network;
+  few_edges = h.few_edges;
+}
+
+pub done_sound : (s : State) → IsSoundState s → IsSoundState (after s done_line)
+done_sound s h = record {
+  few_roles = (let few = h.few_roles in omega arith);
+  few_kinds = (let few = h.few_kinds in omega arith);
+  few_processes = h.few_processes;
+  group = tt;
+  kind_roles = tt;
+  network = h.network;
+  few_edges = h.few_edges;
+}
+
 -- a role is opened
 pub role_opens : (s : State) (name role_name : List ℕ) (names : List (List ℕ)) → IsSoundState s → IsFree (NameStands (role_names s.parts.roles) 16 name) → names ≡ [] → IsSoundState (record { parts = s.parts; group = in_locals role_name names })
 role_opens s name role_name names sound free none = record {
@@ -99,9 +124,11 @@ role_opens s name role_name names sound free none = record {
   few_processes = sound.few_processes;
   group = no_locals names none;
   kind_roles = tt;
+  network = sound.network;
+  few_edges = sound.few_edges;
 }
 
-role_within : (roles : List RoleParts) (name : List ℕ) → Contains (role_names roles) name → number_in (role_names roles) name < length roles
+pub role_within : (roles : List RoleParts) (name : List ℕ) → Contains (role_names roles) name → number_in (role_names roles) name < length roles
 role_within roles name there = let lt = number_within (role_names roles) name there in omega (arith, length-map roles (λ (r : RoleParts). r.name))
 
 -- a kind is opened
@@ -112,6 +139,8 @@ kind_opens s name a b sound free = record {
   few_processes = sound.few_processes;
   group = tt;
   kind_roles = (role_within s.parts.roles a (contained (role_names s.parts.roles) a (λ h. free.free UnknownName (inl (refl, h)))), role_within s.parts.roles b (contained (role_names s.parts.roles) b (λ h. free.free UnknownName (inr (inl (refl, h))))));
+  network = sound.network;
+  few_edges = sound.few_edges;
 }
 
 -- the open role or kind is declared
@@ -122,6 +151,8 @@ end_sound v (in_arcs r) sound may = record {
   few_processes = sound.few_processes;
   group = tt;
   kind_roles = tt;
+  network = role_grown v.roles r (kind_ends v.kinds) v.processes v.edges sound.network sound.few_roles;
+  few_edges = sound.few_edges;
 }
 end_sound v (in_kind k) sound may = record {
   few_roles = sound.few_roles;
@@ -129,6 +160,8 @@ end_sound v (in_kind k) sound may = record {
   few_processes = sound.few_processes;
   group = tt;
   kind_roles = tt;
+  network = kind_more v.roles v.kinds k v.processes v.edges sound.network sound.few_kinds sound.kind_roles;
+  few_edges = sound.few_edges;
 }
 end_sound v before_head sound may = absurd may
 end_sound v among_roles sound may = absurd may
@@ -140,10 +173,27 @@ end_sound v after_done sound may = absurd may
 
 -- a process is declared
 pub process_sound : (s : State) (name r : List ℕ) → IsSoundState s → IsFree (ProcessStands s.parts.roles s.parts.processes name r) → IsSoundState (after s (process_line name r))
-process_sound s name r sound free = record {
-  few_roles = (let h = sound.few_roles in omega arith);
-  few_kinds = (let h = sound.few_kinds in omega arith);
-  few_processes = (let h = process_room s.parts.roles s.parts.processes name r free in omega (arith, length-append s.parts.processes (record { name = name; role = number_in (role_names s.parts.roles) r } ∷ [])));
-  group = tt;
-  kind_roles = tt;
-}
+process_sound s name r sound free =
+    let room = process_room s.parts.roles s.parts.processes name r free in
+    let within = role_within s.parts.roles r (contained (role_names s.parts.roles) r (λ h. free.free UnknownName (inl (refl, h)))) in record {
+      few_roles = (let h = sound.few_roles in omega arith);
+      few_kinds = (let h = sound.few_kinds in omega arith);
+      few_processes = omega (arith, room, length-append s.parts.processes (record { name = name; role = number_in (role_names s.parts.roles) r } ∷ []));
+      group = tt;
+      kind_roles = tt;
+      network = process_grown s.parts.roles (kind_ends s.parts.kinds) s.parts.processes (record { name = name; role = number_in (role_names s.parts.roles) r }) s.parts.edges sound.network room within sound.few_edges;
+      few_edges = sound.few_edges;
+    }
+
+-- an edge is declared
+pub edge_sound : (s : State) (p q kind : List ℕ) → IsSoundState s → IsFree (EdgeStands s.parts.processes s.parts.kinds s.parts.edges p q kind) → IsSoundState (after s (edge_line p q kind))
+edge_sound s p q kind sound free =
+    let fits = edge_fits s.parts.processes s.parts.kinds s.parts.edges p q kind free in record {
+      few_roles = (let h = sound.few_roles in omega arith);
+      few_kinds = (let h = sound.few_kinds in omega arith);
+      few_processes = sound.few_processes;
+      group = tt;
+      kind_roles = tt;
+      network = edge_grown s.parts.roles (kind_ends s.parts.kinds) s.parts.processes s.parts.edges (edge_named s.parts.processes s.parts.kinds p q kind) sound.network fits.within fits.differ fits.fresh fits.roles fits.room sound.few_edges;
+      few_edges = λ k. degree_grown s.parts.edges (edge_named s.parts.processes s.parts.kinds p q kind) k fits.room (sound.few_edges k);
+    }

@@ -1,13 +1,8 @@
 -- What reading a text answers.
 use Rattle.std.specs.Prelude.{ℕ, List}
-use Rattle.ctl_text.specs.declared.read.Spec.{Spec}
 use Rattle.ctl_text.specs.declared.cause.TextFault.{TextFault}
 use Rattle.ctl_text.specs.declared.cause.TextFault.TheVariants.{At, Memory}
-use Rattle.ctl_text.specs.Value.{SpecParts}
 use Rattle.ctl_text.specs.Text.{IsRefused}
-
-abbrev pub spec_of : Spec → SpecParts
-spec_of spec = record { roles = spec.roles.items; kinds = spec.kinds.items; processes = spec.processes.items; edges = spec.edges.items }
 
 -- want of memory, or the first bad line and its lowest cause
 abbrev pub IsRefusal : List ℕ → TextFault → Type 0

@@ -1,6 +1,6 @@
 -- The processes beside each process, as lists by its number.
 use Rattle.std.specs.Prelude.{ℕ, ◌≡◌, ◌==◌, List, [], ◌∷◌, ◌++◌, if◌then◌else◌, slice_index_or}
-use Rattle.ctl_text.specs.declared.network.Edge.{Edge}
+use Rattle.interconnection.specs.declared.parts.Edge.{Edge}
 
 -- the process at the other end of the edge, if this one is at an end
 abbrev pub other_end : ℕ → Edge → List ℕ

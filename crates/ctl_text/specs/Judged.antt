@@ -10,6 +10,7 @@ use Rattle.ctl_text.specs.Required.{SpellsOver, AreKnownOver, IsUnspelled}
 use Rattle.ctl_text.specs.Sign.{Names}
 use Rattle.ctl_text.specs.Item.{Said, require_line, Says}
 use Rattle.ctl_text.specs.State.{State, Group, before_head, MayStand}
+use Rattle.ctl_text.specs.Text.{EndOfText}
 use Rattle.ctl_text.specs.Cause.{IsLowest, IsFree, WordsStand, MaySay, Leaves}
 
 -- nothing stands against the words, and they leave this state
@@ -49,3 +50,8 @@ pub record IsSpelledOver (a b : Names) (tokens : List (List ℕ)) (form : Form) 
 -- the words say something, and the group is open where it stands
 abbrev pub CanSay : Group → List (List ℕ) → Said → Type 0
 CanSay group words item = Says words item × MayStand group item
+
+-- want of memory, or what stands against the end of a text below this group
+abbrev pub IsBadEnd : Group → LineFault → Type 0
+IsBadEnd group Memory = Unit {0}
+IsBadEnd group (Bad cause) = EndOfText group cause

@@ -9,9 +9,12 @@ pub mod ItemReading
 pub mod Judged
 pub mod Lines
 pub mod Long
+pub mod Made
 pub mod Required
 pub mod Sign
 pub mod Sound
+pub mod SoundValue
+pub mod SpecText
 pub mod State
 pub mod Text
 pub mod Token

@@ -2,6 +2,9 @@
 use Rattle.std.specs.Prelude.{ℕ, ◌≡◌, ◌≢◌, ◌<◌, ◌≤◌, ◌+◌, List, length, All, AllPairs}
 use Rattle.pair_structure.specs.declared.side.LocalArc.{LocalArc}
 use Rattle.pair_structure.specs.Role.{JoinsTwo, RoleParts}
+use Rattle.interconnection.specs.Graph.{degree_of}
+use Rattle.interconnection.specs.Network.{AreLawful}
+use Rattle.ctl_text.specs.Value.{kind_ends}
 use Rattle.ctl_text.specs.State.{State, Group, in_locals, in_arcs, in_kind}
 
 pub record AreLocals (names : List (List ℕ)) : Type 0 where
@@ -40,3 +43,5 @@ pub record IsSoundState (s : State) : Type 0 where
   pub few_processes : length s.parts.processes ≤ 1024
   pub group : IsSound s.group
   pub kind_roles : HasItsRoles s.parts.roles s.group
+  pub network : AreLawful s.parts.roles (kind_ends s.parts.kinds) s.parts.processes s.parts.edges
+  pub few_edges : (k : ℕ) → degree_of s.parts.edges k ≤ 32

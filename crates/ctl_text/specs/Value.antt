@@ -1,10 +1,11 @@
 -- What a specification says, as a value.
-use Rattle.std.specs.Prelude.{ℕ, ◌≡◌, ◌==◌, ◌||◌, ◌⊎◌, Bool, List, [], map, position, Any, count_by, Option, Some, None, slice_index_or}
+use Rattle.std.specs.Prelude.{ℕ, ◌≡◌, ◌⊎◌, List, [], map, position, Any, Option, Some, None, slice_index_or}
 use Rattle.std.specs.Str.{bytes_eq}
 use Rattle.pair_structure.specs.Role.{RoleParts}
 use Rattle.ctl_form.specs.declared.pair_spec.PairSpec.{PairSpec}
-use Rattle.ctl_text.specs.declared.network.Process.{Process}
-use Rattle.ctl_text.specs.declared.network.Edge.{Edge}
+use Rattle.interconnection.specs.declared.parts.Process.{Process}
+use Rattle.interconnection.specs.declared.parts.Edge.{Edge}
+use Rattle.interconnection.specs.Network.{NetworkParts}
 
 -- roles, kinds of pairs, processes and edges, each numbered by its place
 pub record SpecParts : Type 0 where
@@ -19,6 +20,14 @@ role_names = map (λ r. r.name)
 abbrev pub kind_names : List PairSpec → List (List ℕ)
 kind_names = map (λ k. k.name)
 
+-- the numbers of the two roles of each kind
+abbrev pub kind_ends : List PairSpec → List (ℕ × ℕ)
+kind_ends = map (λ k. (k.role_a, k.role_b))
+
+-- the network of a specification: kind k of it has the two roles of kind k
+abbrev pub network_of : SpecParts → NetworkParts
+network_of v = record { roles = v.roles; ends = kind_ends v.kinds; processes = v.processes; edges = v.edges }
+
 abbrev pub process_names : List Process → List (List ℕ)
 process_names = map (λ p. p.name)
 
@@ -29,14 +38,6 @@ or_zero (Some n) = n
 -- the number of a name among these
 abbrev pub number_in : List (List ℕ) → List ℕ → ℕ
 number_in names name = or_zero (position (λ x. bytes_eq x name) names)
-
--- the process is an end of the edge
-abbrev pub is_at : ℕ → Edge → Bool
-is_at k e = e.a == k || e.b == k
-
--- how many edges the process has
-abbrev pub degree_of : List Edge → ℕ → ℕ
-degree_of edges k = count_by (is_at k) edges
 
 -- some edge is between the two processes, whichever is its side a
 abbrev pub AreJoined : List Edge → ℕ → ℕ → Type 0

@@ -9,8 +9,8 @@ ghost use Rattle.ctl_text.specs.View.{group_of, state_of, said};
 use crate::item::Item;
 use crate::names::{kind_number, local_number, name_of, process_number, role_number};
 use crate::place::{Place, Reader};
-use crate::{Edge, Process};
 use ctl_form::{Clauses, PairSpec};
+use interconnection::{Edge, Process};
 use pair_structure::{LocalArc, Role};
 use std::alloc::{AllocError, Global};
 

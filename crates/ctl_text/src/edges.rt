@@ -1,8 +1,9 @@
 ghost use Rattle.std.specs.Prelude.{◌≡◌, ◌↔◌, ◌≤◌, ◌++◌, ◌∷◌, [], IsTrue, IfOk, Contains};
-ghost use Rattle.ctl_text.specs.Value.{degree_of, AreJoined};
+ghost use Rattle.interconnection.specs.Graph.{degree_of};
+ghost use Rattle.ctl_text.specs.Value.{AreJoined};
 
-use crate::Edge;
 use crate::beside::Beside;
+use interconnection::Edge;
 use std::alloc::{AllocError, Global};
 use std::marker::Model;
 
@@ -15,7 +16,7 @@ pub(crate) struct Edges {
 
 impl Model for Edges {
     ghost use Rattle.std.specs.Prelude.{List};
-    ghost use Rattle.ctl_text.specs.declared.network.Edge.{Edge};
+    ghost use Rattle.interconnection.specs.declared.parts.Edge.{Edge};
     ghost use Rattle.ctl_text.specs.EdgeTable.{IsBeside};
 
     ghost Value = { List Edge };

@@ -23,12 +23,16 @@ mod limit_tests;
 mod line;
 mod long;
 mod names;
-mod network;
 mod place;
 mod processes;
 mod read;
 mod role_cause;
 mod sign;
+mod spec;
+mod spec_laws;
+mod spec_writer;
+#[cfg(test)]
+mod spec_writer_tests;
 mod take;
 #[cfg(test)]
 mod tests;
@@ -39,6 +43,8 @@ pub use cause::{TextCause, TextFault};
 pub use formula_fault::FormulaFault;
 pub use formula_laws::{canonical_is_formula, is_spelled_once};
 pub use laws::never_both;
-pub use network::{Edge, Process};
-pub use read::{Spec, read_spec};
+pub use read::read_spec;
 pub use sign::{Leaf, Mark, Prefix, Sign};
+pub use spec::Spec;
+pub use spec_laws::canonical_is_spec_text;
+pub use spec_writer::write_spec;

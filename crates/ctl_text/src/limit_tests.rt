@@ -53,8 +53,8 @@ fn chains(alloc: Global, last: usize) -> Result<Vec<u8>, Fail> {
 fn the_largest_closure(rt: HostRuntime) -> Result<(), Fail> {
     let alloc = rt.alloc();
     let spec = read_spec(alloc, &chains(alloc, 3)?)?;
-    let role = spec.roles.get(0).ok_or("role")?;
-    let kind = spec.kinds.get(0).ok_or("kind")?;
+    let role = spec.network().roles().get(0).ok_or("role")?;
+    let kind = spec.kinds().get(0).ok_or("kind")?;
     let normal = Normal::of(alloc, &whole(alloc, kind, role, role)?)?;
     assert_eq!(rt; normal.count(), 512);
     let over = read_spec(alloc, &chains(alloc, 4)?).err();

@@ -1,7 +1,7 @@
 ghost use Rattle.std.specs.Prelude.{◌≡◌, ◌↔◌, ◌<◌, ◌++◌, ◌∷◌, [], IsTrue, IfSome, OnOk, Any, length, position};
 ghost use Rattle.std.specs.Str.{bytes_eq};
 
-use crate::Process;
+use interconnection::Process;
 use std::alloc::{AllocError, Global};
 use std::marker::Model;
 
@@ -13,7 +13,7 @@ pub(crate) struct Processes {
 
 impl Model for Processes {
     ghost use Rattle.std.specs.Prelude.{List};
-    ghost use Rattle.ctl_text.specs.declared.network.Process.{Process};
+    ghost use Rattle.interconnection.specs.declared.parts.Process.{Process};
 
     ghost Value = { List Process };
 

@@ -1,41 +1,48 @@
-ghost use Rattle.std.specs.Prelude.{◌≡◌, ◌⊎◌, ℕ, IfOk, IfErr, MatchResult, length, ◌<◌, ◌+◌, ◌≤◌, ◌^◌};
-ghost use Rattle.ctl_text.specs.Value.{SpecParts};
-ghost use Rattle.ctl_text.specs.Text.{IsSpecText, Gives, EndOfText};
+ghost use Rattle.std.specs.Prelude.{◌≡◌, ℕ, IfOk, IfErr, MatchResult, length, map, ◌<◌, ◌≤◌, ◌^◌};
+ghost use Rattle.interconnection.specs.Graph.{degree_of};
+ghost use Rattle.interconnection.specs.Network.{AreLawful};
+ghost use Rattle.ctl_text.specs.Value.{SpecParts, kind_ends};
+ghost use Rattle.ctl_text.specs.Text.{IsSpecText, Gives};
+ghost use Rattle.ctl_text.specs.Judged.{IsBadEnd};
+ghost use Rattle.ctl_text.specs.Sound.{IsSoundState};
 ghost use Rattle.ctl_text.specs.View.{state_of};
-ghost use Rattle.ctl_text.specs.Answers.{spec_of, IsRefusal};
-ghost use Rattle.ctl_text.specs.declared.cause.TextFault.TheVariants.{Memory};
+ghost use Rattle.ctl_text.specs.Answers.{IsRefusal};
+ghost use Rattle.ctl_text.specs.Made.{value_of, HasEnds};
 
 use crate::cause::{LineFault, TextCause, TextFault};
 use crate::edges::Edges;
 use crate::line::cut_line;
 use crate::place::{Place, Reader};
 use crate::processes::Processes;
+use crate::spec::Spec;
 use crate::take::take_line;
-use crate::{Edge, Process};
 use ctl_form::PairSpec;
-use pair_structure::Role;
+use interconnection::{Edge, Network, NetworkFault, Process};
+use pair_structure::{Memory, Role};
 use std::alloc::Global;
 
-/// A specification: its roles, kinds of pairs, processes and edges, each numbered by its place.
+/// What a text makes: the network of its processes, and its kinds of pairs.
 #[derive(Drop)]
-pub struct Spec {
-    pub roles: Vec<Role>,
+pub(crate) struct Made {
+    pub network: Network,
     pub kinds: Vec<PairSpec>,
-    pub processes: Vec<Process>,
-    pub edges: Vec<Edge>,
 }
 
 /// The specification of which the bytes are a text, or the first bad line with its lowest cause.
 pub fn read_spec(alloc: Global, bytes: &[u8]) -> Result<Spec, TextFault>
-    ensures text { IfOk result (λ spec. IsSpecText bytes.now (spec_of spec)) }
+    ensures text { IfOk result (λ spec. IsSpecText bytes.now spec) }
     ensures refused { IfErr result (IsRefusal bytes.now) }
-    ensures only { (v : SpecParts) → IsSpecText bytes.now v → MatchResult result (λ spec. spec_of spec ≡ v) (λ fault. fault ≡ Memory) }
+    ensures only { (v : SpecParts) → IsSpecText bytes.now v → MatchResult result (λ spec. spec ≡ v) (λ fault. fault ≡ TextFault.Memory) }
 {
-    read_text(alloc, bytes)
+    match read_text(alloc, bytes) {
+        Ok(Made { network, kinds }) => Ok(Spec::of(network, kinds)),
+        Err(fault) => Err(fault),
+    }
 }
 
-fn read_text(alloc: Global, bytes: &[u8]) -> Result<Spec, TextFault>
-    ensures text { IfOk result (λ spec. IsSpecText bytes.now (spec_of spec)) }
+fn read_text(alloc: Global, bytes: &[u8]) -> Result<Made, TextFault>
+    ensures text { IfOk result (λ made. IsSpecText bytes.now (value_of made)) }
+    ensures ends { IfOk result HasEnds }
     ensures refused { IfErr result (IsRefusal bytes.now) }
 {
     let mut reader = Reader {
@@ -57,16 +64,19 @@ fn read_text(alloc: Global, bytes: &[u8]) -> Result<Spec, TextFault>
         rest = behind;
         line += 1;
     }
-    match ended(reader) {
-        Ok(spec) => Ok(spec),
-        Err(what) => Err(TextFault::At { line, what }),
+    match ended(alloc, reader) {
+        Ok(made) => Ok(made),
+        Err(LineFault::Bad(what)) => Err(TextFault::At { line, what }),
+        Err(LineFault::Memory) => Err(TextFault::Memory),
     }
 }
 
 /// The value that the last line leaves, or why the text may not end there.
-fn ended(reader: Reader) -> Result<Spec, TextCause>
-    ensures ok { IfOk result (λ spec. Gives (state_of reader) (spec_of spec)) }
-    ensures refused { IfErr result (EndOfText (state_of reader).group) }
+fn ended(alloc: Global, reader: Reader) -> Result<Made, LineFault>
+    requires { IsSoundState (state_of reader) }
+    ensures ok { IfOk result (λ made. Gives (state_of reader) (value_of made)) }
+    ensures ends { IfOk result HasEnds }
+    ensures refused { IfErr result (IsBadEnd (state_of reader).group) }
 {
     let Reader {
         roles,
@@ -76,13 +86,43 @@ fn ended(reader: Reader) -> Result<Spec, TextCause>
         place,
     } = reader;
     match place {
-        Place::BeforeHead => Err(TextCause::BadHead),
-        Place::AfterDone => Ok(Spec {
-            roles,
-            kinds,
-            processes: processes.into_vec(),
-            edges: edges.into_vec(),
-        }),
-        _ => Err(TextCause::BadLine),
+        Place::BeforeHead => Err(LineFault::Bad(TextCause::BadHead)),
+        Place::AfterDone => {
+            let made = made_of(alloc, roles, kinds, processes.into_vec(), edges.into_vec())?;
+            Ok(made)
+        }
+        _ => Err(LineFault::Bad(TextCause::BadLine)),
     }
+}
+
+/// What these parts make.
+fn made_of(
+    alloc: Global,
+    roles: Vec<Role>,
+    kinds: Vec<PairSpec>,
+    processes: Vec<Process>,
+    edges: Vec<Edge>,
+) -> Result<Made, Memory>
+    requires lawful { AreLawful roles.items (kind_ends kinds.items) processes.items edges.items }
+    requires few { (k : ℕ) → degree_of edges.items k ≤ 32 }
+    ensures made { IfOk result (λ made. value_of made ≡ record { roles = roles.items; kinds = kinds.items; processes = processes.items; edges = edges.items }) }
+    ensures ends { IfOk result HasEnds }
+{
+    let ends = ends_of(alloc, &kinds)?;
+    match Network::make(alloc, roles, ends, processes, edges) {
+        Ok(network) => Ok(Made { network, kinds }),
+        Err(NetworkFault::Memory) => Err(Memory),
+        Err(_) => unreachable!(),
+    }
+}
+
+/// The numbers of the two roles of each kind.
+fn ends_of(alloc: Global, kinds: &[PairSpec]) -> Result<Vec<(u8, u8)>, Memory>
+    ensures { IfOk result (λ ends. ends.items ≡ kind_ends kinds.now) }
+{
+    let mut ends = Vec::with_capacity(alloc, kinds.len())?;
+    for kind in kinds {
+        ends.push((kind.role_a, kind.role_b))?;
+    }
+    Ok(ends)
 }

@@ -107,12 +107,12 @@ fn bad_lines_are_named(rt: HostRuntime) -> Result<(), Fail> {
 fn philosophers_are_read(rt: HostRuntime) -> Result<(), Fail> {
     let alloc = rt.alloc();
     let spec = read_spec(alloc, S1.as_bytes())?;
-    assert_eq!(rt; spec.roles.len(), 1);
-    assert_eq!(rt; spec.processes.len(), 2);
-    let edge = spec.edges.get(0).ok_or("edge")?;
+    assert_eq!(rt; spec.network().roles().len(), 1);
+    assert_eq!(rt; spec.network().processes().len(), 2);
+    let edge = spec.network().edges().get(0).ok_or("edge")?;
     assert_eq!(rt; edge.b, 1);
-    let role = spec.roles.get(0).ok_or("role")?;
-    let kind = spec.kinds.get(0).ok_or("kind")?;
+    let role = spec.network().roles().get(0).ok_or("role")?;
+    let kind = spec.kinds().get(0).ok_or("kind")?;
     assert_eq!(rt; kind.clauses.len(), 3);
     let normal = Normal::of(alloc, &whole(alloc, kind, role, role)?)?;
     assert_eq!(rt; normal.count(), 54);

@@ -11,4 +11,3 @@ pub mod AllMoves
 pub mod Meaning
 pub mod Roles
 pub mod Solved
-pub mod KindRoles

@@ -85,7 +85,7 @@ fn answer_spec(alloc: Global, bytes: &[u8], text: &mut Vec<u8>) -> Result<Status
 {
     match read_spec(alloc, bytes) {
         Ok(spec) => {
-            let status = answer_kinds(alloc, &spec.roles, &spec.kinds, text)?;
+            let status = answer_kinds(alloc, spec.network().roles(), spec.kinds(), text)?;
             Ok(status)
         }
         Err(TextFault::At { line, what }) => {

@@ -1,5 +1,5 @@
 use Rattle.ctl_text.specs.View.{group_of, state_of}
-use Rattle.ctl_text.proofs.Kept.{role_opens, kind_opens, end_sound, process_sound}
+use Rattle.ctl_text.proofs.Kept.{head_sound, done_sound, role_opens, kind_opens, end_sound, process_sound, edge_sound}
 use Rattle.ctl_text.proofs.added.added.Goals as goal
 
 pub local_added-requires-clause-free : goal.local_added-requires-clause-free
@@ -30,3 +30,14 @@ pub returns-in_ok-reader-in-Process-clause-sound : goal.returns-in_ok-reader-in-
 returns-in_ok-reader-in-Process-clause-sound c =
     let free = rw c.in-Process.is at c.requires.free in
     rw c.in_ok-reader-in-Process.ensures (process_sound (state_of c.args.reader) _ _ c.requires.sound free)
+
+pub returns-in_ok-reader-in-Edge-clause-sound : goal.returns-in_ok-reader-in-Edge-clause-sound
+returns-in_ok-reader-in-Edge-clause-sound c =
+    let free = rw c.in-Edge.is at c.requires.free in
+    rw c.in_ok-reader-in-Edge.ensures (edge_sound (state_of c.args.reader) _ _ _ c.requires.sound free)
+
+pub returns-in-Head-clause-sound : goal.returns-in-Head-clause-sound
+returns-in-Head-clause-sound c = rw c.placed.ensures (head_sound (state_of c.args.reader) c.requires.sound)
+
+pub returns-in-Done-clause-sound : goal.returns-in-Done-clause-sound
+returns-in-Done-clause-sound c = rw c.placed-in-Done.ensures (done_sound (state_of c.args.reader) c.requires.sound)

@@ -1,5 +1,5 @@
 use Rattle.std.proofs.Common.{sym, ◌∙◌}
-use Rattle.ctl_text.specs.declared.network.Process.{Process}
+use Rattle.interconnection.specs.declared.parts.Process.{Process}
 use Rattle.ctl_text.proofs.Named.{position-names}
 use Rattle.ctl_text.proofs.names.process_place.Goals as goal
 

@@ -1,20 +1,26 @@
-use Rattle.std.proofs.Common.{ℕ, ◌≡◌, List, Result, Ok, Err, IfOk, IfErr, MatchResult, refl}
+use Rattle.std.proofs.Common.{ℕ, ◌≡◌, List, refl, ◌∙◌}
 use Rattle.ctl_text.specs.declared.cause.TextFault.{TextFault}
 use Rattle.ctl_text.specs.declared.cause.TextFault.TheVariants.{At, Memory}
-use Rattle.ctl_text.specs.declared.read.Spec.{Spec}
 use Rattle.ctl_text.specs.Lines.{lines_of}
-use Rattle.ctl_text.specs.Value.{SpecParts}
+use Rattle.ctl_text.specs.Made.{value_of}
 use Rattle.ctl_text.specs.State.{first_state}
+use Rattle.ctl_text.specs.Value.{SpecParts}
 use Rattle.ctl_text.specs.Text.{IsSpecText}
-use Rattle.ctl_text.specs.Answers.{spec_of, IsRefusal}
+use Rattle.ctl_text.specs.Answers.{IsRefusal}
 use Rattle.ctl_text.proofs.TextLaws.{stands_once, never_both}
+use Rattle.ctl_text.proofs.ValueKept.{text_sound}
 use Rattle.ctl_text.proofs.read.read_spec.Goals as goal
 
-only_one : (bytes : List ℕ) (r : Result Spec TextFault) → IfOk r (λ spec. IsSpecText bytes (spec_of spec)) → IfErr r (IsRefusal bytes)
-    → (v : SpecParts) → IsSpecText bytes v → MatchResult r (λ spec. spec_of spec ≡ v) (λ fault. fault ≡ Memory)
-only_one bytes (Ok spec) ok refused v text = stands_once first_state (lines_of bytes) (spec_of spec) v ok text
-only_one bytes (Err Memory) ok refused v text = refl
-only_one bytes (Err (At line what)) ok refused v text = absurd (never_both first_state 1 (lines_of bytes) v line what text refused)
+-- bytes that are a text are refused only for want of memory
+only_memory : (bytes : List ℕ) (fault : TextFault) → IsRefusal bytes fault → (v : SpecParts) → IsSpecText bytes v → fault ≡ Memory
+only_memory bytes Memory refused v text = refl
+only_memory bytes (At line what) refused v text = absurd (never_both first_state 1 (lines_of bytes) v line what text refused)
 
-pub returns-clause-only : goal.returns-clause-only
-returns-clause-only c = only_one c.args.bytes.now c.read_text.result c.read_text.ensures.text c.read_text.ensures.refused
+pub of-requires-clause-sound : goal.of-requires-clause-sound
+of-requires-clause-sound c = text_sound c.args.bytes.now (value_of c.in-Ok.field-0) c.in-Ok.ensures.text
+
+pub returns-in-Ok-clause-only : goal.returns-in-Ok-clause-only
+returns-in-Ok-clause-only c = λ v text. c.of.ensures ∙ stands_once first_state (lines_of c.args.bytes.now) (value_of c.in-Ok.field-0) v c.in-Ok.ensures.text text
+
+pub returns-in-Err-clause-only : goal.returns-in-Err-clause-only
+returns-in-Err-clause-only c = λ v text. only_memory c.args.bytes.now c.in-Err.fault c.in-Err.ensures.refused v text
