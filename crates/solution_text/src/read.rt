@@ -1,19 +1,35 @@
-ghost use Rattle.std.specs.Prelude.{◌≡◌, ◌<◌, IfOk, IfErr, All, length};
+ghost use Rattle.std.specs.Prelude.{◌≡◌, ◌<◌, IfOk, IfErr, MatchResult, All, List, length};
+ghost use Rattle.pair_structure.specs.Structure.{Structure};
+ghost use Rattle.solution_text.specs.SolutionText.{AreOver};
 ghost use Rattle.solution_text.specs.Answers.{HasRoles, IsRefusal};
 ghost use Rattle.solution_text.specs.Text.{IsSolutionText, Gives, EndOfText};
 ghost use Rattle.solution_text.specs.View.{state_of};
 
 use crate::line_fault::LineFault;
 use crate::reader::{Place, Reader};
+use crate::solution::Solution;
 use crate::take::take_line;
 use ctl_form::PairSpec;
-use ctl_text::{TextCause, TextFault};
+use ctl_text::{Spec, TextCause, TextFault};
 use pair_structure::{PairStructure, Role};
 use std::alloc::Global;
 use strict_text::cut_line;
 
+/// The solution of which the bytes are a text, or the first bad line with its lowest cause. One pass; the text's lines are not kept.
+pub fn read_solution(alloc: Global, spec: &Spec, bytes: &[u8]) -> Result<Solution, TextFault>
+    ensures text { IfOk result (λ sol. IsSolutionText spec.now.roles spec.now.kinds bytes.now sol) }
+    ensures over { IfOk result (λ sol. AreOver spec.now.roles spec.now.kinds sol) }
+    ensures refused { IfErr result (IsRefusal spec.now.roles spec.now.kinds bytes.now) }
+    ensures only { (v : List Structure) → IsSolutionText spec.now.roles spec.now.kinds bytes.now v → MatchResult result (λ sol. sol ≡ v) (λ fault. fault ≡ TextFault.Memory) }
+{
+    match read_structures(alloc, spec.network().roles(), spec.kinds(), bytes) {
+        Ok(structures) => Ok(Solution::make(spec, structures)),
+        Err(fault) => Err(fault),
+    }
+}
+
 /// The structures of which the bytes are a text, one for each of the kinds over these roles.
-pub(crate) fn read_structures(
+fn read_structures(
     alloc: Global,
     roles: &[Role],
     kinds: &[PairSpec],
