@@ -1,13 +1,15 @@
 -- The text of kinds, one more at a time.
-use Rattle.std.proofs.Common.{ℕ, zero, suc, ◌≡◌, ◌<◌, ◌+◌, List, [], ◌∷◌, ◌++◌, length, take, refl, sym, ap, ◌∙◌, arith, append_assoc, append-nil, add-one, All, get_or}
+use Rattle.std.proofs.Common.{ℕ, zero, suc, ◌≡◌, ◌<◌, ◌+◌, List, [], ◌∷◌, ◌++◌, length, take, refl, sym, ap, ◌∙◌, arith, append_assoc, append-nil, add-one, All, get_or, subst}
 use Rattle.pair_structure.specs.Role.{RoleParts}
 use Rattle.pair_structure.specs.Structure.{Structure}
 use Rattle.ctl_form.specs.declared.pair_spec.PairSpec.{PairSpec}
 use Rattle.ctl_form.specs.Kind.{role_at}
 use Rattle.ctl_text.specs.Value.{kind_at}
-use Rattle.std.proofs.lemmas.List.{get_or_default}
+use Rattle.std.proofs.lemmas.List.{get_or_default, take_more}
+use Rattle.std.proofs.lemmas.List.Elements.{All-push}
 use Rattle.solution_text.specs.Answers.{HasRoles}
 use Rattle.solution_text.specs.Failing.{structure_at}
+use Rattle.solution_text.specs.Laws.{IsNumbered}
 use Rattle.solution_text.specs.SolutionText.{kind_text, kinds_text}
 use Rattle.solution_text.proofs.Satisfied.{kind_is, structure_is}
 
@@ -40,3 +42,8 @@ kind_added roles kinds structures n kind a b m old now new has lt count k p q s 
     let in_kinds : n < length kinds = omega arith in
     let r : HasRoles (length roles) kind = rw (sym k) at (has n kind in_kinds) in
     w ∙ ap (λ text. now ++ text) (nth_is roles kinds structures n kind a b m (kind_is kinds n kind in_kinds k) (role_is roles kind.role_a a r.a p) (role_is roles kind.role_b b r.b q) (structure_is structures n m lt s)) ∙ kinds_push roles kinds structures n old now in_kinds lt e
+
+-- and its states have numbers too
+pub numbered_more : (structures : List Structure) (n : ℕ) (m : Structure) → n < length structures → m ≡ get_or structures n m → All IsNumbered (take n structures) → IsNumbered m → All IsNumbered (take (n + 1) structures)
+numbered_more structures n m lt is each here =
+    subst (All IsNumbered) (ap (λ x. take n structures ++ x ∷ []) is ∙ sym (take_more structures n m lt)) (All-push IsNumbered (take n structures) m each here)

@@ -1,7 +1,9 @@
-ghost use Rattle.std.specs.Prelude.{◌≡◌, ◌++◌, OnOk, OnErr, All, length};
+ghost use Rattle.std.specs.Prelude.{◌≡◌, ◌++◌, ◌≤◌, ◌^◌, OnOk, OnErr, All, length};
 ghost use Rattle.std.specs.List.{flat_map};
 ghost use Rattle.ctl_text.specs.FormulaText.{name_at};
 ghost use Rattle.solution_text.specs.Answers.{HasRoles};
+ghost use Rattle.solution_text.specs.Laws.{IsNumbered};
+ghost use Rattle.solution_text.specs.Text.{IsSolutionText};
 ghost use Rattle.solution_text.specs.SolutionText.{state_text, move_text, kind_text, structure_text, kinds_text, solution_text, AreOver};
 
 use crate::solution::Solution;
@@ -20,6 +22,7 @@ pub fn write_solution(
 ) -> Result<(), Memory>
     requires { AreOver spec.now.roles spec.now.kinds sol.now }
     ensures written { OnOk result (into.new.items ≡ into.old.items ++ solution_text spec.now.roles spec.now.kinds sol.now) }
+    ensures text { OnOk result (IsSolutionText spec.now.roles spec.now.kinds (solution_text spec.now.roles spec.now.kinds sol.now) sol.now) }
     ensures kept { OnErr result (into.new.items ≡ into.old.items) }
 {
     let mut text = Vec::new(alloc);
@@ -41,7 +44,8 @@ fn write_structures(
 ) -> Result<(), AllocError>
     requires roles { All (HasRoles (length roles.now)) kinds.now }
     requires count { length structures.now ≡ length kinds.now }
-    ensures { OnOk result (into.new.items ≡ into.old.items ++ solution_text roles.now kinds.now structures.now) }
+    ensures written { OnOk result (into.new.items ≡ into.old.items ++ solution_text roles.now kinds.now structures.now) }
+    ensures numbered { OnOk result (All IsNumbered structures.now) }
 {
     into.extend_from_slice(b"solution 1\n")?;
     write_kinds(roles, kinds, structures, into)?;
@@ -57,7 +61,8 @@ fn write_kinds(
 ) -> Result<(), AllocError>
     requires roles { All (HasRoles (length roles.now)) kinds.now }
     requires count { length structures.now ≡ length kinds.now }
-    ensures { OnOk result (into.new.items ≡ into.old.items ++ kinds_text roles.now kinds.now structures.now) }
+    ensures written { OnOk result (into.new.items ≡ into.old.items ++ kinds_text roles.now kinds.now structures.now) }
+    ensures numbered { OnOk result (All IsNumbered structures.now) }
 {
     for (number, m) in structures.iter().enumerate() {
         let kind = &kinds[number];
@@ -79,7 +84,8 @@ fn write_kind(
     m: &PairStructure,
     into: &mut Vec<u8>,
 ) -> Result<(), AllocError>
-    ensures { OnOk result (into.new.items ≡ into.old.items ++ kind_text name.now a.now b.now m.now) }
+    ensures written { OnOk result (into.new.items ≡ into.old.items ++ kind_text name.now a.now b.now m.now) }
+    ensures numbered { OnOk result (IsNumbered m.now) }
 {
     into.extend_from_slice(b"kind ")?;
     into.extend_from_slice(name.as_str().as_bytes())?;
@@ -95,7 +101,8 @@ fn write_structure(
     m: &PairStructure,
     into: &mut Vec<u8>,
 ) -> Result<(), AllocError>
-    ensures { OnOk result (into.new.items ≡ into.old.items ++ structure_text a.now b.now m.now) }
+    ensures written { OnOk result (into.new.items ≡ into.old.items ++ structure_text a.now b.now m.now) }
+    ensures numbered { OnOk result (IsNumbered m.now) }
 {
     write_states(a, b, m.states(), into)?;
     write_moves(m.moves(), into)?;
@@ -108,7 +115,8 @@ fn write_states(
     states: &[(u8, u8)],
     into: &mut Vec<u8>,
 ) -> Result<(), AllocError>
-    ensures { OnOk result (into.new.items ≡ into.old.items ++ flat_map (state_text a.now b.now) states.now) }
+    ensures written { OnOk result (into.new.items ≡ into.old.items ++ flat_map (state_text a.now b.now) states.now) }
+    ensures few { length states.now ≤ 2 ^ 64 }
 {
     for label in states {
         write_state(a, b, *label, into)?;
