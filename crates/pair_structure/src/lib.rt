@@ -20,7 +20,7 @@ mod structure_tests;
 
 pub use memory::Memory;
 pub use move_order::arrange;
-pub use name::{Name, NameFault};
+pub use name::{Name, NameFault, is_name};
 pub use role::Role;
 pub use role_fault::RoleFault;
 pub use side::{LocalArc, Move, Side};

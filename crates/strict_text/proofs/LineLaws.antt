@@ -42,3 +42,20 @@ text_of_lines (b ∷ bytes) = elim (b == 10) as (λ t. b == 10 ≡ t → text_of
   | true ↦ λ e. rw (e, text_of_lines bytes) (ap (λ c. c ∷ bytes) (sym (eqb-true b 10 e)))
   | false ↦ λ e. rw (e, rest_lines b (lines_of bytes), text_of_lines bytes) refl
 ] refl
+
+-- each line ends
+abbrev pub AreEnded : List Line → Type 0
+AreEnded [] = Unit {0}
+AreEnded (line ∷ lines) = (line.is_ended ≡ true) × AreEnded lines
+
+joined : (b : ℕ) (front back both : List Line) → AreEnded (before_line b front) → (AreEnded front → both ≡ front ++ back) → before_line b both ≡ before_line b front ++ back
+joined b [] back both ended along = let h : false ≡ true = ended.0 in cc
+joined b (line ∷ lines) back both ended along = rw (along ended) refl
+
+-- behind lines that end stand the lines of what follows
+pub lines_append : (front back : List ℕ) → AreEnded (lines_of front) → lines_of (front ++ back) ≡ lines_of front ++ lines_of back
+lines_append [] back ended = refl
+lines_append (b ∷ front) back ended = elim (b == 10) as (λ t. b == 10 ≡ t → lines_of (b ∷ front ++ back) ≡ lines_of (b ∷ front) ++ lines_of back) [
+  | true ↦ λ e. rw e (ap (λ lines. record { bytes = []; is_ended = true } ∷ lines) (lines_append front back (rw e at ended).1))
+  | false ↦ λ e. rw e (joined b (lines_of front) (lines_of back) (lines_of (front ++ back)) (rw e at ended) (lines_append front back))
+] refl

@@ -1,9 +1,10 @@
 -- How a line is cut into words.
-use Rattle.std.proofs.Common.{ℕ, zero, suc, ◌≡◌, ◌<◌, ◌+◌, Bool, true, false, List, [], ◌∷◌, ◌++◌, ◌==◌, length, get_or, take, drop, refl, arith, position, Some, None, add-one, sym, ap, ◌≤◌, All, append_assoc}
+use Rattle.std.proofs.Common.{ℕ, zero, suc, ◌≡◌, ◌<◌, ◌+◌, Bool, true, false, List, [], ◌∷◌, ◌++◌, ◌==◌, length, get_or, take, drop, refl, arith, position, Some, None, add-one, sym, ap, ◌≤◌, All, append_assoc, ◌&&◌, nat_le}
 use Rattle.std.proofs.lemmas.List.Quantifiers.{position-Some}
 use Rattle.std.proofs.lemmas.Bool.Decides.{nat_tests}
 use Rattle.std.proofs.lemmas.Bool.{eqb-true}
 use Rattle.std.proofs.lemmas.List.Elements.{All-cons, All-nil}
+use Rattle.std.specs.List.{list_all}
 use Rattle.strict_text.specs.Lines.{lines_of, is_strict_byte, IsStrict}
 use Rattle.strict_text.specs.Words.{words_of, before_word}
 use Rattle.strict_text.specs.Spaced.{spaced, line_text, IsWord, AreWords, WordsOfLine, OneLine}
@@ -30,7 +31,8 @@ last_word (b ∷ line) none =
 pub cut_none : (line : List ℕ) → position (λ b. b == 32) line ≡ None → words_of line ≡ line ∷ []
 cut_none line e = last_word line (none_passes (λ b. b == 32) line e)
 
-words_some : (line : List ℕ) → 0 < length (words_of line)
+-- each line has a word
+pub words_some : (line : List ℕ) → 0 < length (words_of line)
 words_some [] = omega arith
 words_some (b ∷ line) = elim (b == 32) as (λ t. b == 32 ≡ t → 0 < length (words_of (b ∷ line))) [ true ↦ λ e. rw e (omega arith) | false ↦ λ e. rw e (begun b (words_of line)) ] refl
   where
@@ -112,3 +114,20 @@ pub strict_words : (words : List (List ℕ)) → AreWords words → IsStrict (sp
 strict_words [] h = absurd h
 strict_words (word ∷ []) h = strict_word word h
 strict_words (word ∷ next ∷ words) h = word_before word (32 ∷ spaced (next ∷ words)) h.0 (All-cons MayStand 32 (spaced (next ∷ words)) refl (strict_words (next ∷ words) h.1))
+
+-- a byte of a word
+abbrev pub is_word_byte : ℕ → Bool
+is_word_byte b = nat_le 33 b && nat_le b 126
+
+byte_bounds : (b : ℕ) → is_word_byte b ≡ true → (33 ≤ b) × (b ≤ 126)
+byte_bounds b e = grind (arith, nat_tests)
+
+both_true : (s t : Bool) → s && t ≡ true → (s ≡ true) × (t ≡ true)
+both_true true true e = (refl, refl)
+both_true true false e = cc
+both_true false t e = cc
+
+-- bytes of a word are a word
+pub word_of_bytes : (word : List ℕ) → list_all is_word_byte word ≡ true → IsWord word
+word_of_bytes [] e = tt
+word_of_bytes (b ∷ word) e = let h = both_true (is_word_byte b) (list_all is_word_byte word) e in let r = byte_bounds b h.0 in (r.0, r.1, word_of_bytes word h.1)

@@ -1,0 +1,9 @@
+pub mod Blocked
+pub mod ItemLaws
+pub mod Judged
+pub mod KindTexts
+pub mod OneText
+pub mod Prefix
+pub mod Satisfied
+pub mod TextLaws
+pub mod Written

@@ -1,0 +1,9 @@
+pub mod Answers
+pub mod Cause
+pub mod Failing
+pub mod Item
+pub mod Laws
+pub mod SolutionText
+pub mod State
+pub mod Text
+pub mod View

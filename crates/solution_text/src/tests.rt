@@ -1,0 +1,1 @@
+//! Texts of solutions, row by row.
