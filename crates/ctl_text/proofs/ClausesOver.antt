@@ -4,10 +4,10 @@ use Rattle.pair_structure.specs.declared.side.Side.TheVariants.{A, B}
 use Rattle.ctl_form.specs.Form.{Form}
 use Rattle.ctl_text.specs.declared.sign.Leaf.{Leaf}
 use Rattle.ctl_text.specs.declared.sign.Leaf.TheVariants.{Yes, No, At}
-use Rattle.ctl_text.specs.declared.sign.Mark.TheVariants.{And, Or, Arrow, Close, Left, Right}
+use Rattle.ctl_text.specs.declared.sign.Mark.TheVariants.{And, Or, Arrow, Close, Right}
 use Rattle.ctl_text.specs.declared.sign.Prefix.TheVariants.{Not, Next, Always, Sometime}
 use Rattle.ctl_text.specs.declared.sign.Sign.{Sign}
-use Rattle.ctl_text.specs.declared.sign.Sign.TheVariants.{Alone, Before, Open, Behind, Path, Until, Other}
+use Rattle.ctl_text.specs.declared.sign.Sign.TheVariants.{Alone, Behind, Until}
 use Rattle.ctl_text.specs.Canonical.{IsOver}
 use Rattle.ctl_text.specs.Sign.{Names, behind_dot, word_sign, sign_of, atom_or, number_of}
 use Rattle.ctl_text.specs.Tree.{Tree, leaf, prefixed, grouped, conjunction, disjunction, implication, waits, signs, signs_of, tree_form, is_known, is_known_leaf, AreKnown, Spells}

@@ -1,6 +1,6 @@
 -- Each value that bytes are a text of is sound: what the lines so far declare is, and each line that is taken keeps it so.
-use Rattle.std.proofs.Common.{ℕ, ◌≡◌, ◌≢◌, ◌<◌, ◌≤◌, ◌+◌, ◌⊎◌, inl, inr, Bool, true, false, List, [], ◌∷◌, ◌++◌, length, get_or, map, codes, All, Contains, refl, sym, ap, ◌∙◌, subst, arith, length-append}
-use Rattle.std.proofs.lemmas.List.{get_or_append_left, get_or_default, length-map, map-append}
+use Rattle.std.proofs.Common.{ℕ, ◌≡◌, ◌≢◌, ◌<◌, inl, inr, Bool, true, false, List, [], ◌∷◌, ◌++◌, length, get_or, map, All, Contains, refl, sym, ◌∙◌, subst, arith, length-append}
+use Rattle.std.proofs.lemmas.List.{get_or_append_left, get_or_default, map-append}
 use Rattle.std.proofs.lemmas.List.Elements.{All-push}
 use Rattle.std.proofs.lemmas.List.Quantifiers.{all_pairs_push}
 use Rattle.pair_structure.specs.Name.{IsName}
@@ -11,15 +11,15 @@ use Rattle.ctl_form.specs.Kind.{role_at}
 use Rattle.interconnection.specs.declared.parts.Process.{Process}
 use Rattle.ctl_text.specs.declared.cause.TextCause.TheVariants.{Long, UnknownName, Twice, ClosureOver}
 use Rattle.ctl_text.specs.Canonical.{AreNames}
-use Rattle.ctl_text.specs.Cause.{IsFree, Blocks, IsClauseSpelled, IsLongLine, NameStands, ProcessStands, Takes}
+use Rattle.ctl_text.specs.Cause.{IsFree, Blocks, IsClauseSpelled, IsLongLine, ProcessStands, Takes}
 use Rattle.ctl_text.specs.Item.{Said, head_line, role_line, local_line, start_line, arc_line, kind_line, require_line, end_line, process_line, edge_line, done_line, words_for, IsSpelled}
-use Rattle.ctl_text.specs.Lines.{lines_of, words_of}
+use Rattle.ctl_text.specs.Lines.{lines_of}
 use Rattle.ctl_text.specs.Long.{IsLong}
 use Rattle.ctl_text.specs.Required.{tokens_in, SpellsOver, AreKnownOver, IsClosureOver}
 use Rattle.ctl_text.specs.Sign.{Names}
 use Rattle.ctl_text.specs.Sound.{IsSoundState}
 use Rattle.ctl_text.specs.SoundValue.{Differ, IsNamedRole, IsReadable, IsNamedKind, IsNamedProcess, IsSoundValue}
-use Rattle.ctl_text.specs.State.{Group, before_head, among_roles, in_locals, in_arcs, among_kinds, in_kind, among_processes, among_edges, after_done, State, first_state, MayStand, after, arc_in}
+use Rattle.ctl_text.specs.State.{Group, in_locals, in_arcs, in_kind, State, first_state, MayStand, after, arc_in}
 use Rattle.ctl_text.specs.Text.{StandsFor, IsSpecText}
 use Rattle.ctl_text.specs.Value.{SpecParts, role_names, kind_names, process_names, number_in}
 use Rattle.ctl_text.proofs.ClausesOver.{spelled_over}

@@ -1,17 +1,16 @@
 -- However a formula is spelled, as many of its tokens are no round parentheses; its canonical text opens fewer than that.
-use Rattle.std.proofs.Common.{ℕ, ◌≡◌, ◌<◌, ◌≤◌, ◌+◌, ◌-◌, ◌⊎◌, inl, inr, Bool, true, false, cond, not, ◌||◌, max, List, [], ◌∷◌, ◌++◌, codes, refl, sym, ap, ◌∙◌, arith}
+use Rattle.std.proofs.Common.{ℕ, ◌≡◌, ◌<◌, ◌≤◌, ◌+◌, ◌-◌, inl, inr, Bool, true, false, cond, not, ◌||◌, List, [], ◌∷◌, ◌++◌, codes, refl, sym, ap, ◌∙◌, arith}
 use Rattle.std.proofs.lemmas.Bool.{cases_lt}
 use Rattle.std.proofs.lemmas.List.Sums.{sum_by-cons}
 use Rattle.std.proofs.lemmas.Slice.Eq.{bytes_eq-Decides}
 use Rattle.std.specs.List.{count_by}
-use Rattle.std.specs.Str.{bytes_eq}
 use Rattle.pair_structure.specs.declared.side.Side.TheVariants.{A, B}
 use Rattle.ctl_form.specs.Form.{Form, truth, falsity, at, neg, both, either, implies, next, always, sometime, until}
 use Rattle.ctl_text.specs.declared.sign.Leaf.TheVariants.{Yes, No, At}
-use Rattle.ctl_text.specs.declared.sign.Mark.TheVariants.{And, Or, Arrow, Close, Left, Right}
+use Rattle.ctl_text.specs.declared.sign.Mark.TheVariants.{And, Or, Arrow, Close, Right}
 use Rattle.ctl_text.specs.declared.sign.Prefix.TheVariants.{Not, Next, Always, Sometime}
 use Rattle.ctl_text.specs.declared.sign.Sign.{Sign}
-use Rattle.ctl_text.specs.declared.sign.Sign.TheVariants.{Alone, Before, Open, Behind, Path, Until, Other}
+use Rattle.ctl_text.specs.declared.sign.Sign.TheVariants.{Open, Behind, Until}
 use Rattle.ctl_text.specs.Canonical.{AreNames, IsOver}
 use Rattle.ctl_text.specs.FormulaText.{formula_text}
 use Rattle.ctl_text.specs.Long.{is_open, is_close, is_counted, open_after, most_open, IsLong}

@@ -1,16 +1,14 @@
 -- What each specification keeps that is read of a text, so that its canonical text is read again.
-use Rattle.std.specs.Prelude.{ℕ, ◌≡◌, ◌≢◌, ◌<◌, ◌≤◌, ◌⊎◌, List, length, All, AllPairs}
+use Rattle.std.specs.Prelude.{ℕ, ◌≢◌, ◌<◌, ◌≤◌, List, length, All, AllPairs}
 use Rattle.pair_structure.specs.Name.{IsName}
 use Rattle.pair_structure.specs.Role.{RoleParts, IsRole}
 use Rattle.ctl_form.specs.declared.pair_spec.PairSpec.{PairSpec}
 use Rattle.ctl_form.specs.Form.{Form}
 use Rattle.ctl_form.specs.Kind.{role_at}
 use Rattle.interconnection.specs.declared.parts.Process.{Process}
-use Rattle.interconnection.specs.declared.parts.Edge.{Edge}
 use Rattle.interconnection.specs.Graph.{degree_of}
 use Rattle.interconnection.specs.Network.{AreLawful}
 use Rattle.ctl_text.specs.Canonical.{IsOver}
-use Rattle.ctl_text.specs.Cause.{AreOfKind}
 use Rattle.ctl_text.specs.FormulaText.{Names, formula_text}
 use Rattle.ctl_text.specs.Long.{IsLong}
 use Rattle.ctl_text.specs.Required.{IsClosureOver}

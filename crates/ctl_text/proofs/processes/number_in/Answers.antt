@@ -1,4 +1,4 @@
-use Rattle.std.proofs.Common.{◌≡◌, ◌++◌, sym, ap, ◌∙◌}
+use Rattle.std.proofs.Common.{◌++◌, sym, ap, ◌∙◌}
 use Rattle.ctl_text.proofs.Places.{numbered}
 use Rattle.ctl_text.proofs.processes.number_in.Goals as goal
 
