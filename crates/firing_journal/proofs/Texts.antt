@@ -21,7 +21,7 @@ takes_once sys place line s t a b =
     x.1.next_is ∙ ap (after place) (says_once line x.0 y.0 x.1.may.says y.1.may.says) ∙ sym y.1.next_is
 
 -- no line is taken after the end
-none_taken : (sys : SystemParts) (place : Place) (line : Line) (next : Place) (v : List Entry) → Gives place v → Takes sys place line next → ⊥
+pub none_taken : (sys : SystemParts) (place : Place) (line : Line) (next : Place) (v : List Entry) → Gives place v → Takes sys place line next → ⊥
 none_taken sys before_head line next v gives takes = gives
 none_taken sys (among_entries entries) line next v gives takes = gives
 none_taken sys (after_done entries) line next v gives takes = takes.leaves.1.may.may
