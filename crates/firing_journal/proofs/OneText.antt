@@ -11,8 +11,8 @@ use Rattle.firing_journal.specs.declared.journal.Entry.{Entry}
 use Rattle.firing_journal.specs.JournalText.{OneText, entry_text, journal_text, said_text}
 use Rattle.firing_journal.specs.Said.{Said, Says, head_line, entry_line, done_line, words_for}
 use Rattle.firing_journal.specs.Place.{Place, among_entries, after_done, before_head}
-use Rattle.firing_journal.specs.Cause.{Leaves, Takes}
-use Rattle.firing_journal.specs.Text.{Gives, IsJournalText, StandsFor}
+use Rattle.firing_journal.specs.Cause.{Leaves}
+use Rattle.firing_journal.specs.Text.{StandsFor}
 use Rattle.firing_journal.proofs.Texts.{none_taken}
 use Rattle.firing_journal.proofs.Words.{bytes_of_words}
 
@@ -36,19 +36,19 @@ record IsBelow (before : List Entry) (lines : List Line) (v : List Entry) : Type
 one_below : (sys : SystemParts) (before : List Entry) (lines : List Line) (v : List Entry) → StandsFor sys (among_entries before) lines v → IsBelow before lines v
 one_below sys before [] v below = absurd below
 one_below sys before (line ∷ lines) v (inl gives) = absurd gives
-one_below sys before (line ∷ lines) v (inr (next, takes, below)) = by takes.leaves.0 takes.leaves.1
+one_below sys before (line ∷ lines) v (inr (next, takes, below)) = by takes.leaves.0 takes.leaves.1 (λ (e : Entry) (later : StandsFor sys (among_entries (before ++ e ∷ [])) lines v). one_below sys (before ++ e ∷ []) lines v later)
   where
-    by : (said : Said) → Leaves (among_entries before) line said next → IsBelow before (line ∷ lines) v
-    by head_line leaves = absurd leaves.may.may
-    by (entry_line e) leaves =
-        let more = one_below sys (before ++ e ∷ []) lines v (subst (λ (p : Place). StandsFor sys p lines v) leaves.next_is below) in
+    by : (said : Said) → Leaves (among_entries before) line said next → ((e : Entry) → StandsFor sys (among_entries (before ++ e ∷ [])) lines v → IsBelow (before ++ e ∷ []) lines v) → IsBelow before (line ∷ lines) v
+    by head_line leaves again = absurd leaves.may.may
+    by (entry_line e) leaves again =
+        let more = again e (subst (λ (p : Place). StandsFor sys p lines v) leaves.next_is below) in
         record {
           later = e ∷ more.later;
           rest = more.rest;
           entries_are = more.entries_are ∙ append_assoc before (e ∷ []) more.later;
           text_is = line_text_of line lines (entry_line e) leaves.may.says ∙ ap (λ (l : List ℕ). entry_text e ++ l) more.text_is ∙ sym (append_assoc (entry_text e) (flat_map entry_text more.later) (said_text done_line ++ more.rest));
         }
-    by done_line leaves = record {
+    by done_line leaves again = record {
       later = [];
       rest = text_of lines;
       entries_are = done_gives sys before lines v (subst (λ (p : Place). StandsFor sys p lines v) leaves.next_is below) ∙ sym (append-nil before);
