@@ -1,6 +1,7 @@
 #!/usr/bin/env bash
 # Proves and builds a program of bench/ and prints where it stands: build.sh NAME CRATE.., for NAME.txt over these crates of the repository,
-# which must name those below them too. It is built outside the repository, since a program's source may stand only in a crate of the gate.
+# which must name those below them too; where NAME_answers.txt is there it has the answers for the proof of its function `system`. It is
+# built outside the repository, since a program's source may stand only in a crate of the gate.
 top=$(cd "$(dirname "$0")/.." && pwd) || exit 1
 name=$1
 shift
@@ -14,6 +15,8 @@ for used in "$@"; do
 done
 echo "$name: $*" >> "$work/crates.txt"
 cp "$top/bench/$name.txt" "$crate/src/main.rt"
+answers=$top/bench/${name}_answers.txt
+[ ! -f "$answers" ] || { mkdir -p "$crate/proofs/system" && cp "$answers" "$crate/proofs/system/Answers.antt"; } || exit 1
 rm -f "$crate/out/$name"
 (cd "$crate" && rt run) > "$work/log" 2>&1
 [ -x "$crate/out/$name" ] || { tail -n 20 "$work/log" >&2; exit 1; }

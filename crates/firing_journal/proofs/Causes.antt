@@ -1,8 +1,8 @@
 -- Of four rows of causes, the one that stands when those above it do not.
-use Rattle.std.proofs.Common.{ℕ, ◌≡◌, ◌≤◌, ◌⊎◌, arith, refl}
+use Rattle.std.proofs.Common.{ℕ, ◌≤◌, arith}
 use Rattle.ctl_text.specs.declared.cause.TextCause.{TextCause}
 use Rattle.ctl_text.specs.declared.cause.TextCause.TheVariants.{NotText, BadHead, BadLine, UnknownName}
-use Rattle.ctl_text.specs.Cause.{IsLowest, IsFree, cause_no}
+use Rattle.ctl_text.specs.Cause.{IsLowest, IsFree}
 use Rattle.ctl_text.proofs.Lowest.{Row, Or, From, from_row, from_or, row_lowest, row_free, or_left, or_right, or_free}
 
 abbrev Fourth : Type 0 → TextCause → Type 0

@@ -1,19 +1,18 @@
 -- How a line is judged: before the head, and below entries.
-use Rattle.std.proofs.Common.{ℕ, ◌≡◌, ◌≢◌, ◌≤◌, ◌∷◌, ◌++◌, List, [], length, refl, sym, ap, ◌∙◌, subst, true}
-use Rattle.std.specs.Prelude.{Option, Some, None, codes}
-use Rattle.ctl_text.specs.declared.cause.TextCause.{TextCause}
+use Rattle.std.proofs.Common.{ℕ, ◌≡◌, ◌≢◌, ◌∷◌, ◌++◌, List, [], length, refl, subst, true}
+use Rattle.std.specs.Prelude.{Some, None, codes}
 use Rattle.ctl_text.specs.declared.cause.TextCause.TheVariants.{NotText, BadHead, BadLine, UnknownName}
-use Rattle.ctl_text.specs.Cause.{IsLowest, IsFree}
+use Rattle.ctl_text.specs.Cause.{IsLowest}
 use Rattle.strict_text.specs.Lines.{Line, IsStrict}
 use Rattle.strict_text.specs.Words.{words_of}
 use Rattle.conjunctive_compose.specs.declared.wish.Wish.{Wish}
 use Rattle.conjunctive_compose.specs.System.{SystemParts}
 use Rattle.firing_journal.specs.declared.journal.Entry.{Entry}
 use Rattle.firing_journal.specs.Journal.{EntryFits}
-use Rattle.firing_journal.specs.Said.{Said, Says, SaysWords, head_line, entry_line, done_line, words_for}
-use Rattle.firing_journal.specs.Place.{Place, MayStand, after, before_head, among_entries, after_done}
-use Rattle.firing_journal.specs.Cause.{IsUnknown, MaySay, Stands, Takes, Leaves}
-use Rattle.firing_journal.specs.View.{IsKnown, grown, place_after, wish_of_numbers}
+use Rattle.firing_journal.specs.Said.{Said, Says, head_line, entry_line, done_line, words_for}
+use Rattle.firing_journal.specs.Place.{Place, MayStand, after, before_head, among_entries}
+use Rattle.firing_journal.specs.Cause.{IsUnknown, MaySay, Stands, Takes}
+use Rattle.firing_journal.specs.View.{IsKnown, place_after, wish_of_numbers}
 use Rattle.firing_journal.proofs.Causes.{not_text, bad_head, bad_line, unknown_name, none_stands}
 use Rattle.firing_journal.proofs.Words.{bytes_of_words, says_head, says_once}
 

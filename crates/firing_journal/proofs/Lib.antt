@@ -1,6 +1,7 @@
 pub mod Causes
 pub mod Judged
 pub mod Numbered
+pub mod OneText
 pub mod Projections
 pub mod Replays
 pub mod Texts

@@ -1,5 +1,5 @@
 -- What a run does on one edge, wish by wish.
-use Rattle.std.proofs.Common.{ℕ, zero, suc, ◌≡◌, ◌<◌, ◌+◌, Option, Some, None, List, [], ◌∷◌, ◌++◌, length, get_or, take, drop, arith, refl, sym, ◌∙◌, ap, subst}
+use Rattle.std.proofs.Common.{ℕ, zero, suc, ◌≡◌, ◌<◌, ◌+◌, Option, Some, None, List, [], ◌∷◌, ◌++◌, length, get_or, take, arith, refl, sym, ◌∙◌, ap, subst}
 use Rattle.std.proofs.lemmas.List.{take_more, take_all}
 use Rattle.pair_structure.specs.declared.side.Side.{Side}
 use Rattle.conjunctive_compose.specs.declared.wish.Wish.{Wish}
@@ -7,7 +7,7 @@ use Rattle.conjunctive_compose.specs.declared.wish.PairMove.{PairMove}
 use Rattle.conjunctive_compose.specs.declared.wish.StepAnswer.{StepAnswer}
 use Rattle.conjunctive_compose.specs.declared.wish.StepAnswer.TheVariants.{Moved, Away, Blocked}
 use Rattle.conjunctive_compose.specs.System.{SystemParts, edge_at, side_on}
-use Rattle.conjunctive_compose.specs.Whole.{WholeParts, HasPair, IsProper, start_of}
+use Rattle.conjunctive_compose.specs.Whole.{WholeParts, IsProper, start_of}
 use Rattle.conjunctive_compose.specs.Firing.{IsAnswer, Moves, fired}
 use Rattle.conjunctive_compose.specs.Run.{IsRun, after}
 use Rattle.conjunctive_compose.specs.Reply.{after_first}

@@ -1,5 +1,5 @@
 -- A text stands for one journal at most, and is never both read and refused.
-use Rattle.std.proofs.Common.{ℕ, ◌≡◌, ◌<◌, ◌≤◌, ◌+◌, length, arith, ◌⊎◌, inl, inr, List, [], ◌∷◌, sym, ap, ◌∙◌, subst, refl}
+use Rattle.std.proofs.Common.{ℕ, ◌≡◌, ◌<◌, ◌≤◌, ◌+◌, length, arith, inl, inr, List, [], ◌∷◌, sym, ap, ◌∙◌, subst, refl}
 use Rattle.ctl_text.specs.declared.cause.TextCause.{TextCause}
 use Rattle.std.specs.Prelude.{Option, None, Some}
 use Rattle.std.proofs.lemmas.List.Elements.{All-push}
@@ -9,7 +9,7 @@ use Rattle.conjunctive_compose.specs.System.{SystemParts}
 use Rattle.firing_journal.specs.declared.journal.Entry.{Entry}
 use Rattle.firing_journal.specs.Journal.{EntryFits, JournalFits}
 use Rattle.firing_journal.specs.View.{IsFitting, grown, place_after}
-use Rattle.firing_journal.specs.Place.{Place, MayStand, after, before_head, among_entries, after_done}
+use Rattle.firing_journal.specs.Place.{Place, after, before_head, among_entries, after_done}
 use Rattle.firing_journal.specs.Cause.{Takes}
 use Rattle.firing_journal.specs.Text.{EndOfText, Gives, IsOpen, RefusedAt, StandsFor}
 use Rattle.firing_journal.proofs.Words.{says_once}
@@ -21,7 +21,7 @@ takes_once sys place line s t a b =
     x.1.next_is ∙ ap (after place) (says_once line x.0 y.0 x.1.may.says y.1.may.says) ∙ sym y.1.next_is
 
 -- no line is taken after the end
-none_taken : (sys : SystemParts) (place : Place) (line : Line) (next : Place) (v : List Entry) → Gives place v → Takes sys place line next → ⊥
+pub none_taken : (sys : SystemParts) (place : Place) (line : Line) (next : Place) (v : List Entry) → Gives place v → Takes sys place line next → ⊥
 none_taken sys before_head line next v gives takes = gives
 none_taken sys (among_entries entries) line next v gives takes = gives
 none_taken sys (after_done entries) line next v gives takes = takes.leaves.1.may.may

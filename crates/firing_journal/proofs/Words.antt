@@ -1,13 +1,12 @@
 -- What the words of a line say.
-use Rattle.std.proofs.Common.{ℕ, zero, suc, ◌≡◌, ◌<◌, ◌^◌, ◌+◌, Option, Some, None, List, [], ◌∷◌, length, get_or, map, All, arith, refl, sym, ◌∙◌, ap, subst, true}
+use Rattle.std.proofs.Common.{ℕ, ◌≡◌, ◌<◌, ◌^◌, ◌+◌, Option, Some, None, List, [], ◌∷◌, length, get_or, map, All, arith, refl, sym, ◌∙◌, ap, true}
 use Rattle.std.specs.Prelude.{codes, decimal, Bool, false, IfNone, ◌==◌, if◌then◌else◌}
 use Rattle.std.proofs.lemmas.Fmt.{decimal_injective}
-use Rattle.std.proofs.lemmas.List.Elements.{All-cons, All-nil, All-tail}
+use Rattle.std.proofs.lemmas.List.Elements.{All-tail}
 use Rattle.strict_text.specs.Lines.{Line}
 use Rattle.strict_text.specs.Spaced.{spaced}
-use Rattle.strict_text.specs.Words.{before_word, words_of, words_behind}
+use Rattle.strict_text.specs.Words.{before_word, words_of}
 use Rattle.strict_text.proofs.WordLaws.{one_line}
-use Rattle.conjunctive_compose.specs.declared.wish.Wish.{Wish}
 use Rattle.firing_journal.specs.declared.journal.Entry.{Entry}
 use Rattle.firing_journal.specs.Said.{Said, head_line, entry_line, done_line, HasNumbers, IsWordNumber, Says, SaysWords, numbers_of, words_for}
 

@@ -1,21 +1,21 @@
 -- What is written of a journal is read again.
-use Rattle.std.proofs.Common.{ℕ, suc, ◌≡◌, ◌<◌, ◌≤◌, ◌+◌, ◌^◌, inl, inr, List, [], ◌∷◌, ◌++◌, length, get_or, All, arith, refl, sym, ◌∙◌, ap, subst, true}
-use Rattle.std.specs.Prelude.{codes, decimal}
+use Rattle.std.proofs.Common.{ℕ, suc, ◌≡◌, ◌<◌, ◌+◌, List, [], ◌∷◌, ◌++◌, length, get_or, All, arith, refl, sym, ◌∙◌, ap, true}
+use Rattle.std.specs.Prelude.{codes}
 use Rattle.std.specs.List.{flat_map}
 use Rattle.std.proofs.lemmas.List.{append_assoc, append-nil, length-append}
 use Rattle.std.proofs.lemmas.List.Elements.{All-tail}
 use Rattle.strict_text.specs.Lines.{Line, IsStrict, lines_of}
-use Rattle.strict_text.specs.Spaced.{AreWords, IsWord, line_text, spaced}
+use Rattle.strict_text.specs.Spaced.{AreWords, IsWord, spaced}
 use Rattle.strict_text.proofs.NumberLaws.{decimal_word}
 use Rattle.strict_text.proofs.WordLaws.{line_of_words, strict_words, words_of_line}
 use Rattle.conjunctive_compose.specs.System.{SystemParts}
 use Rattle.firing_journal.specs.declared.journal.Entry.{Entry}
-use Rattle.firing_journal.specs.Journal.{AreNumbered, EntryFits, JournalFits}
+use Rattle.firing_journal.specs.Journal.{EntryFits, JournalFits}
 use Rattle.firing_journal.specs.JournalText.{HasSmallNumbers, ReadBack, entry_text, journal_text, said_text}
-use Rattle.firing_journal.specs.Said.{Said, HasNumbers, Says, SaysWords, head_line, entry_line, done_line, words_for}
+use Rattle.firing_journal.specs.Said.{Said, HasNumbers, Says, head_line, entry_line, done_line, words_for}
 use Rattle.firing_journal.specs.Place.{MayStand, among_entries, after, after_done, before_head}
 use Rattle.firing_journal.specs.Cause.{IsUnknown, Takes}
-use Rattle.firing_journal.specs.Text.{IsJournalText, StandsFor}
+use Rattle.firing_journal.specs.Text.{StandsFor}
 use Rattle.firing_journal.proofs.Judged.{head_taken, taken}
 use Rattle.firing_journal.proofs.Numbered.{number_at}
 use Rattle.firing_journal.proofs.Texts.{done_stands, line_stands}

@@ -1,5 +1,5 @@
 -- The text of a journal.
-use Rattle.std.specs.Prelude.{ℕ, ◌++◌, List, All}
+use Rattle.std.specs.Prelude.{ℕ, ◌≡◌, ◌++◌, List, All}
 use Rattle.std.specs.List.{flat_map}
 use Rattle.conjunctive_compose.specs.System.{SystemParts}
 use Rattle.strict_text.specs.Spaced.{line_text}
@@ -26,3 +26,7 @@ HasSmallNumbers entry = HasNumbers (entry_line entry)
 -- what is written of a journal that fits the system is a text of it for that system, whatever follows
 abbrev pub ReadBack : Type 0
 ReadBack = (sys : SystemParts) (entries : List Entry) (rest : List ℕ) → AreNumbered entries → All HasSmallNumbers entries → JournalFits sys entries → IsJournalText sys (journal_text entries ++ rest) entries
+
+-- a text of a journal is its one text, with something behind it
+abbrev pub OneText : Type 0
+OneText = (sys : SystemParts) (bytes : List ℕ) (entries : List Entry) → IsJournalText sys bytes entries → (rest : List ℕ) × (bytes ≡ journal_text entries ++ rest)

@@ -16,7 +16,7 @@ mod tests;
 mod write;
 
 pub use journal::{Entry, Journal};
-pub use laws::is_read_back;
+pub use laws::{has_one_text, is_read_back};
 pub use outcome::Replay;
 pub use projection::project;
 pub use read::read_journal;

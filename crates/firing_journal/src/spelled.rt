@@ -113,7 +113,6 @@ fn network(alloc: Global, role: Role, count: u32, joins: &str) -> Result<Network
     Ok(network)
 }
 
-#[tactic(auto, using(conjunctive_compose::proofs::Spelled::one_structure))]
 pub(crate) fn system(
     alloc: Global,
     locals: &str,

@@ -1,5 +1,5 @@
-use Rattle.std.proofs.Common.{◌≡◌, IsTrue, false}
-use Rattle.firing_journal.proofs.Words.{says_nothing, says_head, says_done}
+use Rattle.std.proofs.Common.{IsTrue, false}
+use Rattle.firing_journal.proofs.Words.{says_nothing}
 use Rattle.firing_journal.proofs.item.said_by.Goals as goal
 
 pub returns-then-not-begins_entry-clause-none : goal.returns-then-not-begins_entry-clause-none

@@ -1,4 +1,4 @@
-use Rattle.std.proofs.Common.{◌≡◌, IsTrue, false, true, refl}
+use Rattle.std.proofs.Common.{IsTrue, false, refl}
 use Rattle.strict_text.specs.View.{line_of}
 use Rattle.firing_journal.proofs.Judged.{head_taken, head_wrong}
 use Rattle.firing_journal.proofs.judge.judge_head.Goals as goal

@@ -1,4 +1,4 @@
-use Rattle.std.proofs.Common.{ℕ, ◌≡◌, ◌∙◌, ap, length, subst, sym}
+use Rattle.std.proofs.Common.{ℕ, ◌∙◌, ap, length, subst, sym}
 use Rattle.strict_text.specs.View.{line_of}
 use Rattle.firing_journal.specs.declared.item.Item.{Item}
 use Rattle.firing_journal.specs.Said.{Says, entry_line}

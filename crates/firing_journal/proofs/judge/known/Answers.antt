@@ -1,5 +1,4 @@
-use Rattle.std.proofs.Common.{arith, length}
-use Rattle.conjunctive_compose.specs.System.{role_of}
+use Rattle.std.proofs.Common.{arith}
 use Rattle.conjunctive_compose.proofs.Edges.{role_lawful}
 use Rattle.firing_journal.proofs.judge.known.Goals as goal
 

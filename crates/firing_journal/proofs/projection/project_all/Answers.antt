@@ -1,10 +1,9 @@
-use Rattle.std.proofs.Common.{ℕ, ◌≡◌, ◌∷◌, ◌++◌, [], get_or, arith, length, refl, sym}
+use Rattle.std.proofs.Common.{◌≡◌, ◌++◌, sym}
 use Rattle.std.proofs.lemmas.List.{append-nil}
 use Rattle.std.specs.Prelude.{option_to_list}
 use Rattle.firing_journal.specs.declared.journal.Entry.{Entry}
-use Rattle.firing_journal.specs.Journal.{wishes_of}
 use Rattle.firing_journal.specs.Replay.{no_wish}
-use Rattle.firing_journal.proofs.Projections.{entry_projected, moves_there, projected_all}
+use Rattle.firing_journal.proofs.Projections.{entry_projected, moves_there}
 use Rattle.firing_journal.proofs.projection.project_all.Goals as goal
 use Rattle.firing_journal.proofs.projection.project_all.Goals.{in-Some+in_ok-push, in_default}
 

@@ -1,10 +1,7 @@
-use Rattle.std.proofs.Common.{ℕ, ◌≡◌, ◌+◌, ◌≤◌, get_or, arith, subst, sym, ap, List, refl}
-use Rattle.conjunctive_compose.specs.declared.wish.StepAnswer.{StepAnswer}
-use Rattle.conjunctive_compose.specs.declared.wish.StepAnswer.TheVariants.{Moved}
-use Rattle.conjunctive_compose.specs.Firing.{IsAnswer}
+use Rattle.std.proofs.Common.{ℕ, ◌≤◌, get_or, arith, subst, sym, List}
 use Rattle.firing_journal.specs.declared.journal.Entry.{Entry}
 use Rattle.firing_journal.specs.Journal.{wishes_of}
-use Rattle.firing_journal.specs.Replay.{no_wish, moves_among}
+use Rattle.firing_journal.specs.Replay.{no_wish}
 use Rattle.firing_journal.proofs.Replays.{count_fits, entry_fired, entry_stuck, fired_start}
 use Rattle.firing_journal.proofs.replaying.fire_all.Goals as goal
 
