@@ -4,18 +4,16 @@ use Rattle.pair_structure.specs.Structure.{Structure, HasMove, GoesOn, label_at}
 use Rattle.pair_structure.specs.declared.side.Side.{Side}
 use Rattle.pair_structure.specs.declared.side.Side.TheVariants.{A, B}
 use Rattle.ctl_form.specs.Form.{next, until}
-use Rattle.ctl_form.specs.Members.{forms_of, form_of_part}
 use Rattle.ctl_form.specs.Rounds.{AfterMove}
 use Rattle.ctl_form.specs.Truth.{Holds}
-use Rattle.ctl_form.specs.declared.part.Part.{Part}
-use Rattle.ctl_form.specs.declared.part.Part.TheVariants.{Yes, Both, Either, Until}
+use Rattle.ctl_form.specs.declared.part.Part.TheVariants.{Both, Either, Until}
 use Rattle.ctl_form.proofs.Expand.{until_expands}
 use Rattle.ctl_form.proofs.TruthDecided.{decided_truth}
 use Rattle.closure_sets.specs.ClosureParts.{ClosureParts, IsClosureParts, count, after, some_move}
 use Rattle.closure_sets.specs.Cover.{IsTrueAt, IsChosen, ExpansionCovers}
 use Rattle.closure_sets.specs.Expansion.{clashes}
 use Rattle.closure_sets.specs.Label.{part_of, form_of, is_plain}
-use Rattle.closure_sets.proofs.Closures.{form_is, member_of, next_of, some_of}
+use Rattle.closure_sets.proofs.Closures.{both_form, either_form, until_lt, until_form, next_of, some_of}
 use Rattle.closure_sets.proofs.Covers.{IsTruth, covers}
 use Rattle.closure_sets.proofs.Labels.{plain_true, clash_false}
 
@@ -23,30 +21,20 @@ module _ (m : Structure) (on : GoesOn m) (c : ClosureParts) (k : IsClosureParts 
   Is : ℕ → Type 0
   Is i = IsTrueAt m c s i
 
-  -- the formula of a member by its part
-  as_part : (i : ℕ) (part : Part) → i < count c → part_of c i ≡ part → form_of c i ≡ form_of_part (forms_of c.parts) part
-  as_part i part lt' p = form_is c k i lt' ∙ ap (form_of_part (forms_of c.parts)) p
-
   both_is : (i f g : ℕ) → part_of c i ≡ Both f g → IsTrueAt m c s i → IsTrueAt m c s f × IsTrueAt m c s g
-  both_is i f g p h = subst (λ x. Holds m x s) (as_part i (Both f g) (member_of c i (Both f g) p (λ e. let q : Yes ≡ Both f g = e in cc)) p) h
+  both_is i f g p h = subst (λ x. Holds m x s) (both_form c k i f g p) h
 
   either_is : (i f g : ℕ) → part_of c i ≡ Either f g → IsTrueAt m c s i → IsTrueAt m c s f ⊎ IsTrueAt m c s g
-  either_is i f g p h = subst (λ x. Holds m x s) (as_part i (Either f g) (member_of c i (Either f g) p (λ e. let q : Yes ≡ Either f g = e in cc)) p) h
-
-  until_lt : (i f g : ℕ) (all weak : Bool) → part_of c i ≡ Until all weak f g → i < count c
-  until_lt i f g all weak p = member_of c i (Until all weak f g) p (λ e. let q : Yes ≡ Until all weak f g = e in cc)
-
-  until_form : (i f g : ℕ) (all weak : Bool) → part_of c i ≡ Until all weak f g → form_of c i ≡ until all weak (form_of c f) (form_of c g)
-  until_form i f g all weak p = as_part i (Until all weak f g) (until_lt i f g all weak p) p
+  either_is i f g p h = subst (λ x. Holds m x s) (either_form c k i f g p) h
 
   -- an until by its stage
   until_out : (i f g : ℕ) (all weak : Bool) → part_of c i ≡ Until all weak f g → IsTrueAt m c s i → IsTrueAt m c s g ⊎ (IsTrueAt m c s f × AfterMove m all (Holds m (form_of c i)) s)
   until_out i f g all weak p h =
-      subst (λ x. IsTrueAt m c s g ⊎ (IsTrueAt m c s f × AfterMove m all (Holds m x) s)) (sym (until_form i f g all weak p))
-      ((until_expands m on all weak (form_of c f) (form_of c g) s lt).0 (subst (λ x. Holds m x s) (until_form i f g all weak p) h))
+      subst (λ x. IsTrueAt m c s g ⊎ (IsTrueAt m c s f × AfterMove m all (Holds m x) s)) (sym (until_form c k i f g all weak p))
+      ((until_expands m on all weak (form_of c f) (form_of c g) s lt).0 (subst (λ x. Holds m x s) (until_form c k i f g all weak p) h))
 
   step_is : (i f g : ℕ) (all weak : Bool) (side : Side) → part_of c i ≡ Until all weak f g → Holds m (next all (Some side) (form_of c i)) s → IsTrueAt m c s (after c side i)
-  step_is i f g all weak side p h = subst (λ x. Holds m x s) (sym (next_of c k i f g all weak side (until_lt i f g all weak p) p)) h
+  step_is i f g all weak side p h = subst (λ x. Holds m x s) (sym (next_of c k i f g all weak side (until_lt c i f g all weak p) p)) h
 
   each_is : (i f g : ℕ) (weak : Bool) → part_of c i ≡ Until true weak f g → IsTrueAt m c s i → IsTrueAt m c s g ⊎ (IsTrueAt m c s f × IsTrueAt m c s (after c A i) × IsTrueAt m c s (after c B i))
   each_is i f g weak p h = split (until_out i f g true weak p h)

@@ -10,11 +10,12 @@ use Rattle.ctl_form.specs.Truth.{Holds, HasLocal}
 use Rattle.ctl_form.specs.declared.part.Part.{Part}
 use Rattle.ctl_form.specs.declared.part.Part.TheVariants.{Yes, No, Lit, Both, Either, Next, Until}
 use Rattle.closure_sets.specs.ClosureParts.{ClosureParts, IsClosureParts, count}
+use Rattle.closure_sets.specs.Cover.{ExpansionIsFull}
 use Rattle.closure_sets.specs.Expansion.{clashes, lowest, is_shared}
 use Rattle.closure_sets.specs.Label.{part_of, form_of, is_local, value, not_value, value_of_two, and_of, or_of, is_yes, is_plain, is_wrong, wrong_of}
 use Rattle.closure_sets.specs.Row.{Members}
 use Rattle.closure_sets.proofs.Closures.{form_is}
-use Rattle.closure_sets.proofs.FullRows.{AreRight}
+use Rattle.closure_sets.proofs.FullRows.{AreRight, rows_are_full}
 use Rattle.closure_sets.proofs.Sets.{IsLowest, lowest_is, both_true}
 
 -- what a truth value says of a fact
@@ -131,3 +132,6 @@ has_not false b e h = absurd (let q : false ≡ true = h in cc)
 
 pub no_clash_right : (c : ClosureParts) (label : ℕ × ℕ) (row : Members) → clashes c label row ≡ false → AreRight c label row
 no_clash_right c label row e i lt has = has_not (row i) (wrong_of c label i) (none_lowest (count c) (is_shared row (wrong_of c label)) (lowest (count c) (is_shared row (wrong_of c label))) (lowest_is (count c) (is_shared row (wrong_of c label))) e i lt) has
+
+pub expansion_is_full : ExpansionIsFull
+expansion_is_full c label seed k = rows_are_full c label (is_plain c label) (clashes c label) (no_clash_right c label) seed (λ side. (k.moves.0, (k.moves.3 side).1))

@@ -13,6 +13,7 @@ use Rattle.closure_sets.specs.Marks.{AreValues, AreWrong, part_value, value_at}
 use Rattle.closure_sets.specs.Row.{Members, add}
 use Rattle.ctl_form.proofs.MemberLaws.{below_up}
 use Rattle.closure_sets.proofs.Closures.{form_is}
+use Rattle.closure_sets.proofs.Lowest.{lowest_same}
 use Rattle.closure_sets.proofs.Sets.{add_same}
 
 part_value_is : (label : ℕ × ℕ) (forms : List Form) (values : List (Option Bool)) (n : ℕ) → ((i : ℕ) → i < n → value_at values i ≡ value label (form_at forms i)) → (part : Part) → IsBelow n part → part_value label values part ≡ value label (form_of_part forms part)
@@ -66,10 +67,6 @@ marked_no row wrong n w h = record { done = done; rest = λ i le. h.rest i (omeg
   where
     done : (i : ℕ) → i < n + 1 → row i ≡ wrong i
     done i lt = elim (dec_lt i n) [ yes l ↦ h.done i l | no g ↦ (let q : n ≡ i = omega (arith, lt, g) in subst (λ j. row j ≡ wrong j) q (h.rest n (omega arith) ∙ sym w)) ]
-
-lowest_same : (n : ℕ) (p q : ℕ → Bool) → ((i : ℕ) → i < n → p i ≡ q i) → lowest n p ≡ lowest n q
-lowest_same zero p q h = refl
-lowest_same (suc n) p q h = rw (lowest_same n p q (λ i lt. h i (omega (arith, lt))), h n (omega arith)) refl
 
 pub clashes_is : (c : ClosureParts) (label : ℕ × ℕ) (row wrong : Members) → AreWrong c label wrong → is_some (lowest (count c) (is_shared row wrong)) ≡ clashes c label row
 clashes_is c label row wrong h = ap (λ (o : Option ℕ). is_some o) (lowest_same (count c) (is_shared row wrong) (is_shared row (wrong_of c label)) (λ i lt. rw (h i lt) refl))

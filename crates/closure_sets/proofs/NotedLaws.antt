@@ -1,8 +1,14 @@
 -- Rows noted one after another.
-use Rattle.std.proofs.Common.{inl, inr, List, [], ◌∷◌, ◌++◌, refl, subst, sym}
-use Rattle.closure_sets.specs.Firsts.{Stands, IsNoted, AreNoted}
+use Rattle.std.proofs.Common.{ℕ, zero, suc, ◌≡◌, ◌-◌, inl, inr, Bool, false, Option, Some, None, List, [], ◌∷◌, ◌++◌, refl, subst, sym, ap, ◌∙◌, arith, append-nil}
+use Rattle.closure_sets.specs.ClosureParts.{ClosureParts, count}
+use Rattle.closure_sets.specs.Expansion.{expand, expansion, ways, lowest, is_open, clashes, pick, finish, at_lowest, rows_of, no_members}
+use Rattle.closure_sets.specs.Firsts.{Stands, IsNoted, AreNoted, AreFirsts}
 use Rattle.closure_sets.specs.Full.{EachRow, Among}
-use Rattle.closure_sets.specs.Row.{Members}
+use Rattle.closure_sets.specs.Label.{part_of, is_plain}
+use Rattle.closure_sets.specs.Row.{Members, add, set_of}
+use Rattle.closure_sets.specs.Ways.{ways_rows, with_row, treat_rows}
+use Rattle.closure_sets.specs.declared.row.Row.{Row}
+use Rattle.closure_sets.specs.declared.ways.Ways.{Ways}
 
 pub noted_append : (before between after xs ys : List Members) → AreNoted before xs between → AreNoted between ys after → AreNoted before (xs ++ ys) after
 noted_append before between after [] ys h k = subst (λ (b : List Members). AreNoted b ys after) h k
@@ -55,3 +61,37 @@ pub among_noted : (X : Members → Type 0) (before all after : List Members) →
 among_noted X before [] after h a = absurd a
 among_noted X before (r ∷ rs) after h (inl x) = kept_noted X h.0 rs after h.2 (noted_has X before h.0 r h.1 x)
 among_noted X before (r ∷ rs) after h (inr a) = among_noted X h.0 rs after h.2 a
+
+with_noted : (f : Members → List Members) (way : Option Row) (rows before between after : List Members) → AreNoted before (rows_of f (with_row way [])) between → AreNoted between (rows_of f rows) after → AreNoted before (rows_of f (with_row way rows)) after
+with_noted f (Some r) rows before between after h k = noted_append before between after (f (set_of r.words)) (rows_of f rows) (subst (λ (l : List Members). AreNoted before l between) (append-nil (f (set_of r.words))) h) k
+with_noted f None rows before between after h k = subst (λ (b : List Members). AreNoted b (rows_of f rows) after) h k
+
+-- a row, then one more where there is one, then a third
+pub ways_noted : (f : Members → List Members) (w : Ways) (before one two after : List Members) → AreNoted before (f (set_of w.first.words)) one → AreNoted one (rows_of f (with_row w.second [])) two → AreNoted two (rows_of f (with_row w.third [])) after → AreNoted before (rows_of f (ways_rows w)) after
+ways_noted f w before one two after h k l = noted_append before one after (f (set_of w.first.words)) (rows_of f (with_row w.second (with_row w.third []))) h (with_noted f w.second (with_row w.third []) one two after k l)
+
+-- one row alone
+pub way_noted : (f : Members → List Members) (way : Option Row) (r : Row) (before after : List Members) → way ≡ Some r → AreNoted before (f (set_of r.words)) after → AreNoted before (rows_of f (with_row way [])) after
+way_noted f way r before after e h = subst (λ (o : Option Row). AreNoted before (rows_of f (with_row o [])) after) (sym e) (subst (λ (l : List Members). AreNoted before l after) (sym (append-nil (f (set_of r.words)))) h)
+
+-- an expansion that treats its lowest open member
+pub expand_noted : (c : ClosureParts) (easy : ℕ → Bool) (clash : Members → Bool) (left : ℕ) (row treated more : Members) (member : ℕ) (rows before after : List Members) → clash row ≡ false → (left ≡ 0 → ⊥) → lowest (count c) (is_open row treated) ≡ Some member → more ≡ add treated member → rows ≡ ways c easy row member (part_of c member)
+    → AreNoted before (treat_rows c easy clash (left - 1) more rows) after → AreNoted before (expand c easy clash left row treated) after
+expand_noted c easy clash zero row treated more member rows before after fits some e f g h = absurd (some refl)
+expand_noted c easy clash (suc d) row treated more member rows before after fits some e f g h = subst (λ (l : List Members). AreNoted before l after) whole h
+  where
+    expansions : Option ℕ → List Members
+    expansions o = at_lowest o (finish c row) (λ m. rows_of (λ r. expand c easy clash d r (add treated m)) (ways c easy row m (part_of c m)))
+
+    less : suc d - 1 ≡ d
+    less = omega arith
+
+    whole : treat_rows c easy clash (suc d - 1) more rows ≡ pick (clash row) [] (expansions (lowest (count c) (is_open row treated)))
+    whole = ap (λ k. treat_rows c easy clash k more rows) less ∙ ap (λ (t : Members). treat_rows c easy clash d t rows) f ∙ ap (treat_rows c easy clash d (add treated member)) g ∙ ap expansions (sym e) ∙ ap (λ b. pick b [] (expansions (lowest (count c) (is_open row treated)))) (sym fits)
+
+-- an expansion from nothing, at the label that was noted
+pub noted_firsts : (c : ClosureParts) (a b x y left : ℕ) (seed treated : Members) (before after rows : List Members) → x ≡ a → y ≡ b → left ≡ count c → treated ≡ no_members → before ≡ [] → after ≡ rows → AreNoted before (expand c (is_plain c (x, y)) (clashes c (x, y)) left seed treated) after → AreFirsts (expansion c (a, b) seed) rows
+noted_firsts c a b x y left seed treated before after rows d e f g p q h =
+    subst (AreNoted [] (expansion c (a, b) seed)) q
+    (subst (λ (w : List Members). AreNoted w (expansion c (a, b) seed) after) p
+    (subst (λ (l : List Members). AreNoted before l after) (ap (λ (n : ℕ). expand c (is_plain c (n, y)) (clashes c (n, y)) left seed treated) d ∙ ap (λ (n : ℕ). expand c (is_plain c (a, n)) (clashes c (a, n)) left seed treated) e ∙ ap (λ k. expand c (is_plain c (a, b)) (clashes c (a, b)) k seed treated) f ∙ ap (expand c (is_plain c (a, b)) (clashes c (a, b)) (count c) seed) g) h))

@@ -1,4 +1,4 @@
-ghost use Rattle.std.specs.Prelude.{◌≡◌, ◌<◌, ◌≤◌, ◌||◌, IfOk, OnOk};
+ghost use Rattle.std.specs.Prelude.{◌≡◌, ◌<◌, ◌≤◌, ◌||◌, [], IfOk, OnOk};
 ghost use Rattle.closure_sets.specs.ClosureParts.{count};
 ghost use Rattle.closure_sets.specs.Cover.{AreCover};
 ghost use Rattle.closure_sets.specs.Expansion.{expand, expansion, finish, clashes, rows_of};
@@ -8,7 +8,7 @@ ghost use Rattle.closure_sets.specs.Full.{EachRow, IsExpansion};
 ghost use Rattle.closure_sets.specs.Label.{is_plain};
 ghost use Rattle.closure_sets.specs.Marks.{AreMarks};
 ghost use Rattle.closure_sets.specs.Row.{set_of, add};
-ghost use Rattle.closure_sets.specs.Ways.{ways_rows, treat_rows};
+ghost use Rattle.closure_sets.specs.Ways.{ways_rows, treat_rows, with_row};
 
 use crate::found::Found;
 use crate::marks::Marks;
@@ -73,12 +73,28 @@ fn expand_each(
     ensures { OnOk result (AreNoted (sets_of found.old) (treat_rows c.now (is_plain c.now (marks.now.a, marks.now.b)) (clashes c.now (marks.now.a, marks.now.b)) left (set_of treated.words) (ways_rows ways)) (sets_of found.new)) }
 {
     expand(c, marks, found, ways.first, treated, left)?;
-    if let Some(second) = ways.second {
-        expand(c, marks, found, second, treated, left)?;
-    }
-    if let Some(third) = ways.third {
-        expand(c, marks, found, third, treated, left)?;
-    }
+    expand_way(c, marks, found, ways.second, treated, left)?;
+    expand_way(c, marks, found, ways.third, treated, left)?;
+    Ok(())
+}
+
+/// Expands a row, if there is one.
+#[cycle(treating)]
+fn expand_way(
+    c: &Closure,
+    marks: &Marks,
+    found: &mut Found,
+    way: Option<Row>,
+    treated: Row,
+    left: u32,
+) -> Result<(), Memory>
+    requires marks { AreMarks c.now (marks.now.a, marks.now.b) marks.now.values.items (set_of marks.now.wrong.words) }
+    ensures { OnOk result (AreNoted (sets_of found.old) (treat_rows c.now (is_plain c.now (marks.now.a, marks.now.b)) (clashes c.now (marks.now.a, marks.now.b)) left (set_of treated.words) (with_row way [])) (sets_of found.new)) }
+{
+    let Some(row) = way else {
+        return Ok(());
+    };
+    expand(c, marks, found, row, treated, left)?;
     Ok(())
 }
 

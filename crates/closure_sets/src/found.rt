@@ -49,6 +49,7 @@ impl Found {
     pub(crate) fn note(&mut self, row: Row) -> Result<(), Memory>
         ensures { OnOk result (IsNoted (sets_of self.old) (set_of row.words) (sets_of self.new)) }
     {
+        row.look();
         if self.known.contains(&row) {
             return Ok(());
         }

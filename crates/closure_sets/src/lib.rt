@@ -2,11 +2,15 @@
 #![tactic(auto)]
 
 mod closure;
-mod found;
 mod expanding;
+mod found;
 mod laws;
 mod marks;
 mod row;
+#[cfg(test)]
+mod samples;
+#[cfg(test)]
+mod tests;
 mod ways;
 
 pub use closure::Closure;

@@ -1,6 +1,7 @@
-ghost use Rattle.std.specs.Prelude.{◌≡◌, ◌<◌, ◌≤◌, ◌&&◌, not, length};
+ghost use Rattle.std.specs.Prelude.{◌≡◌, ◌<◌, ◌≤◌, ◌-◌, ℕ, length, min};
+ghost use Rattle.std.specs.Int.{bit_at};
 ghost use Rattle.closure_sets.specs.Expansion.{lowest, is_open, is_shared, no_members};
-ghost use Rattle.closure_sets.specs.Row.{add, set_of, with_member};
+ghost use Rattle.closure_sets.specs.Row.{add, set_of, with_member, IsFirstBit, some_below};
 
 /// How many members a row can hold.
 pub(crate) const MAX_MEMBERS: u32 = 512;
@@ -12,6 +13,8 @@ pub struct Row {
 }
 
 impl Row {
+    ghost use Rattle.closure_sets.specs.Found.{HasWords};
+
     /// The row without members.
     pub fn empty() -> Row
         ensures { set_of result.words ≡ no_members }
@@ -36,26 +39,21 @@ impl Row {
         self.set_bit(member);
     }
 
+    /// Reads the words, so that a proof knows that they are words.
+    pub(crate) fn look(&self)
+        ensures { HasWords self.now }
+    {
+        for place in 0..8 {
+            let _word = self.words[place];
+        }
+    }
+
     fn set_bit(&mut self, member: u32)
         requires { member < 512 }
         ensures words { self.new.words ≡ with_member self.old.words member }
         ensures long { length self.old.words ≡ 8 }
     {
         self.words[(member / 64) as usize] |= 1 << (member % 64);
-    }
-
-    fn is_open(&self, treated: &Row, member: u32) -> bool
-        requires { member < 512 }
-        ensures { result ≡ is_open (set_of self.now.words) (set_of treated.now.words) member }
-    {
-        self.has(member) && !treated.has(member)
-    }
-
-    fn is_shared(&self, others: &Row, member: u32) -> bool
-        requires { member < 512 }
-        ensures { result ≡ is_shared (set_of self.now.words) (set_of others.now.words) member }
-    {
-        self.has(member) && others.has(member)
     }
 
     /// The row with this member too.
@@ -68,31 +66,84 @@ impl Row {
         row
     }
 
-    /// The lowest member below the count that the other row has not.
-    #[tactic(auto, using(crate::proofs::Lowest::lowest_found, crate::proofs::Lowest::lowest_none))]
-    pub(crate) fn lowest_open(&self, treated: &Row, count: u32) -> Option<u32>
-        requires { count ≤ 512 }
-        ensures { result ≡ lowest count (is_open (set_of self.now.words) (set_of treated.now.words)) }
+    /// The members that the other row has not.
+    pub(crate) fn without(&self, others: &Row) -> Row
+        ensures { (i : ℕ) → i < 512 → set_of result.words i ≡ is_open (set_of self.now.words) (set_of others.now.words) i }
     {
-        for member in 0..count {
-            if self.is_open(treated, member) {
-                return Some(member);
+        let mut row = *self;
+        for place in 0..8 {
+            row.words[place] = word_without(row.words[place], others.words[place]);
+        }
+        row
+    }
+
+    /// The members that the other row has too.
+    pub(crate) fn shared(&self, others: &Row) -> Row
+        ensures { (i : ℕ) → i < 512 → set_of result.words i ≡ is_shared (set_of self.now.words) (set_of others.now.words) i }
+    {
+        let mut row = *self;
+        for place in 0..8 {
+            row.words[place] = word_shared(row.words[place], others.words[place]);
+        }
+        row
+    }
+
+    /// The lowest member, if it is below the count. A word at a time.
+    pub(crate) fn lowest(&self, count: u32) -> Option<u32>
+        requires { count ≤ 512 }
+        ensures { result ≡ lowest count (set_of self.now.words) }
+    {
+        for place in 0..8 {
+            let word = self.words[place];
+            if word != 0 {
+                return below(64 * place as u32 + first_bit(word), count);
             }
         }
         None
     }
 
+    /// The lowest member below the count that the other row has not.
+    pub(crate) fn lowest_open(&self, treated: &Row, count: u32) -> Option<u32>
+        requires { count ≤ 512 }
+        ensures { result ≡ lowest count (is_open (set_of self.now.words) (set_of treated.now.words)) }
+    {
+        self.without(treated).lowest(count)
+    }
+
     /// The lowest member below the count that the other row has too.
-    #[tactic(auto, using(crate::proofs::Lowest::lowest_found, crate::proofs::Lowest::lowest_none))]
     pub(crate) fn lowest_shared(&self, others: &Row, count: u32) -> Option<u32>
         requires { count ≤ 512 }
         ensures { result ≡ lowest count (is_shared (set_of self.now.words) (set_of others.now.words)) }
     {
-        for member in 0..count {
-            if self.is_shared(others, member) {
-                return Some(member);
-            }
-        }
-        None
+        self.shared(others).lowest(count)
     }
+}
+
+fn word_without(word: u64, other: u64) -> u64
+    ensures { (bit : ℕ) → bit < 64 → bit_at result bit ≡ min (bit_at word bit) (1 - bit_at other bit) }
+{
+    word & !other
+}
+
+fn word_shared(word: u64, other: u64) -> u64
+    ensures { (bit : ℕ) → bit < 64 → bit_at result bit ≡ min (bit_at word bit) (bit_at other bit) }
+{
+    word & other
+}
+
+/// The place of the lowest bit.
+fn first_bit(word: u64) -> u32
+    requires { 0 < word }
+    ensures { IsFirstBit word result }
+{
+    word.trailing_zeros()
+}
+
+fn below(member: u32, count: u32) -> Option<u32>
+    ensures { result ≡ some_below count member }
+{
+    if member < count {
+        return Some(member);
+    }
+    None
 }

@@ -1,0 +1,4 @@
+pub mod Deletion
+pub mod Laws
+pub mod Met
+pub mod Unravel

@@ -1,0 +1,34 @@
+//! Laws of deletion and unravelling, stated where the crates above can cite them; their bodies do nothing.
+
+ghost use Rattle.deletion_rules.specs.Laws.{DeadIsUnsatisfiable, MetAreSupported, RanksAreBounded, RemovalKeepsMet, SupportRises};
+ghost use Rattle.deletion_rules.specs.Unravel.{RowsAreTrue};
+
+/// In a structure that is unravelled from nodes, each formula of a node's row is true at the node's states.
+pub fn rows_are_true()
+    ensures { RowsAreTrue }
+{}
+
+/// A node that a state of some structure meets is supported, as long as all that is met lives.
+pub fn met_are_supported()
+    ensures { MetAreSupported }
+{}
+
+/// The rank of a strong until at a node that a state meets is at most its depth, or its least path, at that state.
+pub fn ranks_are_bounded()
+    ensures { RanksAreBounded }
+{}
+
+/// Nodes that are not supported may be deleted: what is met lives on.
+pub fn removal_keeps_met()
+    ensures { RemovalKeepsMet }
+{}
+
+/// What is not supported under some living nodes is not so under fewer.
+pub fn support_rises()
+    ensures { SupportRises }
+{}
+
+/// Where the root is deleted, no structure over the roles makes its members true at the first state.
+pub fn dead_is_unsatisfiable()
+    ensures { DeadIsUnsatisfiable }
+{}
