@@ -27,7 +27,7 @@ same_member all all' s s' f f' e = cc
 same_side : (all all' : Bool) (s s' : Side) (f f' : ℕ) → Next all s f ≡ Next all' s' f' → s ≡ s'
 same_side all all' s s' f f' e = cc
 
-no_part : (all : Bool) (s : Side) (f : ℕ) → Yes ≡ Next all s f → ⊥
+pub no_part : (all : Bool) (s : Side) (f : ℕ) → Yes ≡ Next all s f → ⊥
 no_part all s f e = cc
 
 -- one member more is carried

@@ -33,7 +33,7 @@ ends_step side pair arcs ends ends' found i d lt are is e =
     let arc : LocalArc = slice_index_or arcs i d in
     subst (λ (l : List LocalArc). AreEnds side pair l ends') (sym (take_more arcs i d lt)) (subst (AreEnds side pair (take i arcs ++ arc ∷ [])) (sym e) (ends_push side pair (take i arcs) arc ends found are is))
 
-pair_is : (x y x' y' : ℕ) → x ≡ x' → y ≡ y' → ◌≡◌ {A = ℕ × ℕ} (x, y) (x', y')
+pub pair_is : (x y x' y' : ℕ) → x ≡ x' → y ≡ y' → ◌≡◌ {A = ℕ × ℕ} (x, y) (x', y')
 pair_is x y x' y' p q = cc
 
 ends_lead_a : (a b : RoleParts) (pair : ℕ × ℕ) (ends : List (ℕ × ℕ)) → AreEnds A pair a.arcs ends → (end : ℕ × ℕ) → Contains ends end ↔ LeadsTo a b (Some A) pair end
