@@ -10,6 +10,8 @@ mod marking;
 mod pruning;
 mod ranks;
 mod table;
+#[cfg(test)]
+mod tests;
 
 pub use laws::{
     dead_is_unsatisfiable, met_are_supported, ranks_are_bounded, removal_keeps_met, rows_are_true,
