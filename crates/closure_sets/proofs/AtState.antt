@@ -1,15 +1,15 @@
 -- The truth of members at a state of a structure.
-use Rattle.std.proofs.Common.{ℕ, ◌≡◌, ◌⊎◌, ◌<◌, inl, inr, Bool, true, false, Some, length, subst, sym, ◌∙◌, ap}
+use Rattle.std.proofs.Common.{ℕ, ◌≡◌, ◌⊎◌, ◌<◌, inl, inr, Bool, true, false, Some, length, subst, sym}
 use Rattle.pair_structure.specs.Structure.{Structure, HasMove, GoesOn, label_at}
 use Rattle.pair_structure.specs.declared.side.Side.{Side}
 use Rattle.pair_structure.specs.declared.side.Side.TheVariants.{A, B}
-use Rattle.ctl_form.specs.Form.{next, until}
+use Rattle.ctl_form.specs.Form.{next}
 use Rattle.ctl_form.specs.Rounds.{AfterMove}
 use Rattle.ctl_form.specs.Truth.{Holds}
 use Rattle.ctl_form.specs.declared.part.Part.TheVariants.{Both, Either, Until}
 use Rattle.ctl_form.proofs.Expand.{until_expands}
 use Rattle.ctl_form.proofs.TruthDecided.{decided_truth}
-use Rattle.closure_sets.specs.ClosureParts.{ClosureParts, IsClosureParts, count, after, some_move}
+use Rattle.closure_sets.specs.ClosureParts.{ClosureParts, IsClosureParts, after, some_move}
 use Rattle.closure_sets.specs.Cover.{IsTrueAt, IsChosen, ExpansionCovers}
 use Rattle.closure_sets.specs.Expansion.{clashes}
 use Rattle.closure_sets.specs.Label.{part_of, form_of, is_plain}

@@ -1,5 +1,5 @@
 -- What is noted of a label, member by member.
-use Rattle.std.proofs.Common.{ℕ, zero, suc, ◌≡◌, ◌<◌, ◌≤◌, ◌+◌, ◌++◌, Bool, true, false, cond, Option, None, is_some, List, [], ◌∷◌, length, refl, subst, sym, ◌∙◌, ap, arith, eqb, eqb-true, length-append}
+use Rattle.std.proofs.Common.{ℕ, ◌≡◌, ◌<◌, ◌≤◌, ◌+◌, ◌++◌, Bool, true, false, cond, Option, None, is_some, List, [], ◌∷◌, length, refl, subst, sym, ◌∙◌, ap, arith, eqb, eqb-true, length-append}
 use Rattle.std.proofs.Math.Decide.{dec_lt}
 use Rattle.std.proofs.lemmas.List.{get_or_append_left, get_or_push}
 use Rattle.ctl_form.specs.Form.{Form}

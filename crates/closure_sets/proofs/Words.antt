@@ -1,13 +1,13 @@
 -- The set that eight words hold.
-use Rattle.std.proofs.Common.{ℕ, ◌≡◌, ◌≢◌, ◌<◌, ◌≤◌, ◌+◌, ◌-◌, ◌*◌, ◌/◌, ◌%◌, ◌==◌, ◌&&◌, ◌||◌, not, Bool, true, false, List, Option, Some, None, cond, length, refl, subst, sym, ◌∙◌, ap, arith, eqb, eqb-true, eq-eqb, ltb, slice_index, slice_set, min, max, get_or-set_same, get_or-set_other, length-set, inl, inr}
+use Rattle.std.proofs.Common.{ℕ, ◌≡◌, ◌≢◌, ◌<◌, ◌≤◌, ◌+◌, ◌-◌, ◌*◌, ◌/◌, ◌%◌, ◌&&◌, ◌||◌, not, Bool, true, false, List, Some, None, cond, length, refl, subst, sym, ◌∙◌, ap, arith, eqb, eqb-true, eq-eqb, ltb, slice_index, slice_set, min, max, get_or-set_same, get_or-set_other, length-set}
 use Rattle.std.proofs.Math.Decide.{ℕ_discrete, dec_lt}
 use Rattle.std.proofs.Math.Path.{fun_ext}
 use Rattle.std.specs.Int.{bit_at}
-use Rattle.std.proofs.lemmas.Bool.{cases_lt, lt-ltb, ltb-true}
+use Rattle.std.proofs.lemmas.Bool.{lt-ltb, ltb-true}
 use Rattle.std.proofs.lemmas.Bool.Decides.{nat_tests}
 use Rattle.std.proofs.lemmas.Nat.Bits.{bit_at_or, bit_at-pow_same, bit_at-pow_other, bit_at-lt, bit_at-zero}
 use Rattle.closure_sets.specs.Expansion.{lowest, is_open, is_shared}
-use Rattle.closure_sets.specs.Row.{Members, add, set_of, with_member, IsFirstBit, some_below}
+use Rattle.closure_sets.specs.Row.{add, set_of, with_member, IsFirstBit, some_below}
 use Rattle.closure_sets.proofs.Lowest.{lowest_found, lowest_none}
 
 -- the same word and the same bit are the same member

@@ -1,8 +1,14 @@
 pub mod Choice
 pub mod Descent
+pub mod Kept
+pub mod Left
 pub mod MoveList
 pub mod Pending
 pub mod Removal
 pub mod Rows
 pub mod Searches
+pub mod Seen
 pub mod Survive
+pub mod Sweeps
+pub mod Tables
+pub mod Within

@@ -1,4 +1,9 @@
 pub mod Deletion
 pub mod Laws
+pub mod Marks
 pub mod Met
+pub mod Outcome
+pub mod Pruned
+pub mod Stable
+pub mod Tests
 pub mod Unravel

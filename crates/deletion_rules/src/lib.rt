@@ -1,9 +1,21 @@
 //! Deletion of nodes of a tableau, with ranks, and the law of what is unravelled from those that are left.
 #![tactic(auto)]
 
+mod deleting;
+mod falling;
+mod goal;
+mod lasting;
 mod laws;
+mod marking;
+mod pruning;
+mod ranks;
+mod table;
+#[cfg(test)]
+mod tests;
 
 pub use laws::{
     dead_is_unsatisfiable, met_are_supported, ranks_are_bounded, removal_keeps_met, rows_are_true,
     support_rises,
 };
+pub use pruning::{Pruned, prune};
+pub use ranks::Ranks;

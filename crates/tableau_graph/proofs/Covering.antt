@@ -13,7 +13,7 @@ use Rattle.closure_sets.specs.Full.{EachRow, Among}
 use Rattle.closure_sets.specs.Row.{Members}
 use Rattle.tableau_graph.specs.Graph.{Graph, graph_of, HasChild, HasMetChild, TableauCovers, TableauRootCovers}
 use Rattle.tableau_graph.specs.Rules.{Follows, LeadsTo, IsTableau}
-use Rattle.tableau_graph.specs.TableauParts.{TableauParts, or_at, seed_of, origin_of, next_or}
+use Rattle.tableau_graph.specs.TableauParts.{TableauParts, or_at, seed_of, origin_of}
 use Rattle.tableau_graph.proofs.Expanded.{tableau_has_children}
 
 both_of : (X Y : Members → Type 0) (rows : List Members) → Among X rows → EachRow Y rows → (row : Members) × X row × Y row
@@ -40,9 +40,9 @@ pub tableau_covers : ExpansionCovers → TableauCovers
 tableau_covers covers t k m over n i h side is s s' at step holds chosen lawful =
     let lt : s' < length m.states = over.goes_on.within side s s' step in
     let label : ℕ × ℕ = label_at m.states s' in
-    let seed : Members = seed_of (or_at t.ors (next_or t n i)) in
+    let seed : Members = seed_of (or_at t.ors ((graph_of t).next_or n i)) in
     let follows : Follows t.a t.b side ((graph_of t).label n) label = follows_move t.a t.b m over side s s' ((graph_of t).label n) at step in
-    met_child t.closure (graph_of t) m (next_or t n i) s' label chosen (expansion t.closure label seed) (slice_get-get_or m.states s' (0, 0) lt) (covers t.closure label seed k.rules.closure m over.goes_on s' lt refl holds chosen lawful) (tableau_has_children t k n i h side is label follows)
+    met_child t.closure (graph_of t) m ((graph_of t).next_or n i) s' label chosen (expansion t.closure label seed) (slice_get-get_or m.states s' (0, 0) lt) (covers t.closure label seed k.rules.closure m over.goes_on s' lt refl holds chosen lawful) (tableau_has_children t k n i h side is label follows)
 
 root_reached : (a b : RoleParts) (found : Option Side) (origin to : ℕ × ℕ) → found ≡ None → to ≡ origin → LeadsTo a b found origin to
 root_reached a b found origin to e same = subst (λ o. LeadsTo a b o origin to) (sym e) same

@@ -10,7 +10,7 @@ use Rattle.closure_sets.specs.Full.{Has, EachRow, IsExpansion}
 use Rattle.closure_sets.specs.Row.{Members}
 use Rattle.tableau_graph.specs.Graph.{graph_of, IsSomeNext, IsGraph, FollowArcs, StartsAtRoot, HasChildren, TableauIsGraph, TableauFollowsArcs, TableauStarts, TableauHasChildren}
 use Rattle.tableau_graph.specs.Rules.{Follows, LeadsTo, IsChild, AreChildren, IsSuccessor, AreSuccessors, IsTableau}
-use Rattle.tableau_graph.specs.TableauParts.{TableauParts, and_at, or_at, pair_of, row_of, origin_of, seed_of, edges_at, next_or}
+use Rattle.tableau_graph.specs.TableauParts.{TableauParts, and_at, or_at, pair_of, row_of, origin_of, seed_of, edges_at}
 
 -- a list of lists has edges only at the numbers of its lists
 pub edges_within : (lists : List (List ℕ)) (i x : ℕ) → Contains (edges_at lists i) x → i < length lists
@@ -40,17 +40,17 @@ expansion_of_node full t k n lt =
     let reached = k.rules.ands_reached n lt in
     (seed_of (or_at t.ors reached.0), expansion_at full t k reached.0 n reached.2)
 
-pub successors_of : (t : TableauParts) → IsTableau t → (n : ℕ) → n < length t.ands → AreSuccessors t n
+pub successors_of : (t : TableauParts) → IsTableau t → (n : ℕ) → n < length t.ands → AreSuccessors t (and_at t.ands n) (edges_at t.successors n)
 successors_of t k n lt = let same : length t.successors ≡ length t.ands = k.all_ands in k.rules.successors n (omega (arith, lt, same))
 
 -- the OR node that a member EXs h leads to
-pub successor_at : (t : TableauParts) → IsTableau t → (n i h : ℕ) (side : Side) → IsSomeNext t.closure (graph_of t) n i side h → IsSuccessor t.closure (and_at t.ands n) side h (or_at t.ors (next_or t n i))
+pub successor_at : (t : TableauParts) → IsTableau t → (n i h : ℕ) (side : Side) → IsSomeNext t.closure (graph_of t) n i side h → IsSuccessor t.closure (and_at t.ands n) side h (or_at t.ors ((graph_of t).next_or n i))
 successor_at t k n i h side s = ((successors_of t k n s.node).each i h side s.part s.member).1
 
-pub successor_within : (t : TableauParts) → IsTableau t → (n i h : ℕ) (side : Side) → IsSomeNext t.closure (graph_of t) n i side h → next_or t n i < length t.children
+pub successor_within : (t : TableauParts) → IsTableau t → (n i h : ℕ) (side : Side) → IsSomeNext t.closure (graph_of t) n i side h → (graph_of t).next_or n i < length t.children
 successor_within t k n i h side s =
     let next = successors_of t k n s.node in
-    let lt : next_or t n i < length t.ors = next.within (next_or t n i) (next.each i h side s.part s.member).0 in
+    let lt : (graph_of t).next_or n i < length t.ors = next.within ((graph_of t).next_or n i) (next.each i h side s.part s.member).0 in
     let same : length t.children ≡ length t.ors = k.all_ors in
     omega (arith, lt, same)
 
@@ -74,9 +74,9 @@ root_leads a b found origin to leads e = subst (λ o. LeadsTo a b o origin to) e
 
 pub tableau_follows_arcs : TableauFollowsArcs
 tableau_follows_arcs t k n i h child side s has =
-    let at : IsSuccessor t.closure (and_at t.ands n) side h (or_at t.ors (next_or t n i)) = successor_at t k n i h side s in
-    let leads = ((children_of t k (next_or t n i) child has).each child has).leads in
-    leads_side t.a t.b (or_at t.ors (next_or t n i)).side side (origin_of (or_at t.ors (next_or t n i))) (pair_of (and_at t.ands n)) (pair_of (and_at t.ands child)) leads at.sided at.origin
+    let at : IsSuccessor t.closure (and_at t.ands n) side h (or_at t.ors ((graph_of t).next_or n i)) = successor_at t k n i h side s in
+    let leads = ((children_of t k ((graph_of t).next_or n i) child has).each child has).leads in
+    leads_side t.a t.b (or_at t.ors ((graph_of t).next_or n i)).side side (origin_of (or_at t.ors ((graph_of t).next_or n i))) (pair_of (and_at t.ands n)) (pair_of (and_at t.ands child)) leads at.sided at.origin
 
 pub tableau_starts : TableauStarts
 tableau_starts t k child has =
@@ -85,6 +85,6 @@ tableau_starts t k child has =
 
 pub tableau_has_children : TableauHasChildren
 tableau_has_children t k n i h side s label follows =
-    let at : IsSuccessor t.closure (and_at t.ands n) side h (or_at t.ors (next_or t n i)) = successor_at t k n i h side s in
-    let leads = side_leads t.a t.b (or_at t.ors (next_or t n i)).side side (origin_of (or_at t.ors (next_or t n i))) (pair_of (and_at t.ands n)) label follows at.sided at.origin in
-    (k.rules.children (next_or t n i) (successor_within t k n i h side s)).all label leads
+    let at : IsSuccessor t.closure (and_at t.ands n) side h (or_at t.ors ((graph_of t).next_or n i)) = successor_at t k n i h side s in
+    let leads = side_leads t.a t.b (or_at t.ors ((graph_of t).next_or n i)).side side (origin_of (or_at t.ors ((graph_of t).next_or n i))) (pair_of (and_at t.ands n)) label follows at.sided at.origin in
+    (k.rules.children ((graph_of t).next_or n i) (successor_within t k n i h side s)).all label leads

@@ -1,2 +1,10 @@
+pub mod Carried
 pub mod Covering
+pub mod Ends
 pub mod Expanded
+pub mod GrowingLaws
+pub mod Growth
+pub mod NodeTables
+pub mod Offered
+pub mod Places
+pub mod Roots

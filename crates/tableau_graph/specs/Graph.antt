@@ -11,7 +11,7 @@ use Rattle.closure_sets.specs.Full.{Has, IsFull, EachRow}
 use Rattle.closure_sets.specs.Label.{part_of, wrong_of}
 use Rattle.closure_sets.specs.Row.{Members}
 use Rattle.tableau_graph.specs.Rules.{Follows, IsCarried, IsTableau}
-use Rattle.tableau_graph.specs.TableauParts.{TableauParts, and_at, or_at, pair_of, row_of, seed_of, edges_at, next_or}
+use Rattle.tableau_graph.specs.TableauParts.{TableauParts, and_at, or_at, pair_of, row_of, seed_of, edges_at, next_of}
 
 -- ands: how many AND nodes there are; next_or n i: the OR successor of the AND node n for its member i, some EXs h
 pub record Graph : Type 0 where
@@ -73,7 +73,7 @@ graph_of t = record {
   row = λ n. row_of (and_at t.ands n);
   seed = λ o. seed_of (or_at t.ors o);
   children = λ o. edges_at t.children o;
-  next_or = next_or t;
+  next_or = λ n i. next_of t.closure (and_at t.ands n) (edges_at t.successors n) i;
 }
 
 abbrev pub TableauIsGraph : Type 0

@@ -1,5 +1,5 @@
 -- The rules that make a tableau (Emerson and Clarke 1982).
-use Rattle.std.specs.Prelude.{ℕ, zero, suc, ◌≡◌, ◌<◌, ◌≤◌, ◌⊎◌, ◌↔◌, false, true, Option, Some, None, List, length, Contains}
+use Rattle.std.specs.Prelude.{ℕ, zero, suc, ◌≡◌, ◌<◌, ◌≤◌, ◌⊎◌, ◌↔◌, false, true, Option, Some, None, List, length, Contains, slice_get}
 use Rattle.pair_structure.specs.Role.{RoleParts, IsRole}
 use Rattle.pair_structure.specs.Structure.{TakesArc, OtherStays}
 use Rattle.pair_structure.specs.declared.side.Side.{Side}
@@ -10,7 +10,7 @@ use Rattle.closure_sets.specs.Firsts.{Stands}
 use Rattle.closure_sets.specs.Full.{Has, EachRow}
 use Rattle.closure_sets.specs.Label.{part_of}
 use Rattle.closure_sets.specs.Row.{Members}
-use Rattle.tableau_graph.specs.TableauParts.{TableauParts, and_at, or_at, pair_of, row_of, origin_of, seed_of, edges_at, somes_below, next_or}
+use Rattle.tableau_graph.specs.TableauParts.{TableauParts, and_at, or_at, pair_of, row_of, origin_of, seed_of, edges_at, somes_below, next_of}
 use Rattle.tableau_graph.specs.declared.nodes.AndNode.{AndNode}
 use Rattle.tableau_graph.specs.declared.nodes.OrNode.{OrNode}
 
@@ -54,11 +54,11 @@ pub record IsSuccessor (c : ClosureParts) (node : AndNode) (side : Side) (h : �
   pub origin : origin_of successor ≡ pair_of node
   pub seed : IsCarried c (row_of node) side h (seed_of successor)
 
--- the successors of the AND node n: one for each EXs h of its row, in rising order of these members
-pub record AreSuccessors (t : TableauParts) (n : ℕ) : Type 0 where
-  pub long : length (edges_at t.successors n) ≡ somes_below t.closure (row_of (and_at t.ands n)) (count t.closure)
-  pub within : (o : ℕ) → Contains (edges_at t.successors n) o → o < length t.ors
-  pub each : (i h : ℕ) (side : Side) → part_of t.closure i ≡ Next false side h → Has (row_of (and_at t.ands n)) i → Contains (edges_at t.successors n) (next_or t n i) × IsSuccessor t.closure (and_at t.ands n) side h (or_at t.ors (next_or t n i))
+-- the successors of an AND node: one for each EXs h of its row, in rising order of these members
+pub record AreSuccessors (t : TableauParts) (node : AndNode) (numbers : List ℕ) : Type 0 where
+  pub long : length numbers ≡ somes_below t.closure (row_of node) (count t.closure)
+  pub within : (o : ℕ) → Contains numbers o → o < length t.ors
+  pub each : (i h : ℕ) (side : Side) → part_of t.closure i ≡ Next false side h → Has (row_of node) i → Contains numbers (next_of t.closure node numbers i) × IsSuccessor t.closure node side h (or_at t.ors (next_of t.closure node numbers i))
 
 -- the OR node is reached from the root by k times a child and its successor
 abbrev pub IsReachedBy : TableauParts → ℕ → ℕ → Type 0
@@ -71,6 +71,10 @@ IsReachedOr t o = (k : ℕ) × IsReachedBy t k o
 abbrev pub IsReachedAnd : TableauParts → ℕ → Type 0
 IsReachedAnd t n = (o : ℕ) × IsReachedOr t o × Contains (edges_at t.children o) n
 
+-- no node stands twice
+abbrev pub AreApart : {N : Type 0} → List N → Type 0
+AreApart {N} nodes = (n k : ℕ) (node : N) → slice_get nodes n ≡ Some node → slice_get nodes k ≡ Some node → n ≡ k
+
 -- no two nodes of a kind have one label, and the nodes that are expanded are so by the rules
 pub record FollowsRules (t : TableauParts) : Type 0 where
   pub closure : IsClosureParts t.closure
@@ -78,10 +82,12 @@ pub record FollowsRules (t : TableauParts) : Type 0 where
   pub role_b : IsRole t.b
   pub some : 0 < length t.ors
   pub root : IsRoot t (or_at t.ors 0)
-  pub ands_differ : (n k : ℕ) → n < length t.ands → k < length t.ands → and_at t.ands n ≡ and_at t.ands k → n ≡ k
-  pub ors_differ : (o k : ℕ) → o < length t.ors → k < length t.ors → or_at t.ors o ≡ or_at t.ors k → o ≡ k
+  pub ands_apart : AreApart t.ands
+  pub ors_apart : AreApart t.ors
+  pub listed_ors : length t.children ≤ length t.ors
+  pub listed_ands : length t.successors ≤ length t.ands
   pub children : (o : ℕ) → o < length t.children → AreChildren t (or_at t.ors o) (edges_at t.children o)
-  pub successors : (n : ℕ) → n < length t.successors → AreSuccessors t n
+  pub successors : (n : ℕ) → n < length t.successors → AreSuccessors t (and_at t.ands n) (edges_at t.successors n)
   pub ands_reached : (n : ℕ) → n < length t.ands → IsReachedAnd t n
   pub ors_reached : (o : ℕ) → o < length t.ors → IsReachedOr t o
 

@@ -68,10 +68,6 @@ abbrev pub somes_below : ClosureParts → Members → ℕ → ℕ
 somes_below c row zero = 0
 somes_below c row (suc i) = one_more (row i && is_some_next (part_of c i)) (somes_below c row i)
 
--- the place among an AND node's successors that belongs to member i: they are in the rising order of the members EXs g of its row
-abbrev pub place_of : TableauParts → ℕ → ℕ → ℕ
-place_of t n i = somes_below t.closure (row_of (and_at t.ands n)) i
-
--- the OR successor of an AND node for its member i, some EXs g
-abbrev pub next_or : TableauParts → ℕ → ℕ → ℕ
-next_or t n i = slice_index_or (edges_at t.successors n) (place_of t n i) 0
+-- the OR node that an AND node's member i, some EXs g, leads to, of its successors: they are in the rising order of these members
+abbrev pub next_of : ClosureParts → AndNode → List ℕ → ℕ → ℕ
+next_of c node successors i = slice_index_or successors (somes_below c (row_of node) i) 0

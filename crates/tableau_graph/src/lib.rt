@@ -1,11 +1,19 @@
 //! The graph of AND and OR nodes from which pair structures are unravelled.
 #![tactic(auto)]
 
+mod children;
+mod growing;
 mod laws;
+mod node_order;
+mod node_table;
 mod nodes;
+mod push_some;
+mod successors;
+mod tableau;
 
 pub use laws::{
     tableau_covers, tableau_follows_arcs, tableau_has_children, tableau_is_graph,
     tableau_root_covers, tableau_starts,
 };
 pub use nodes::{AndNode, OrNode};
+pub use tableau::Tableau;

@@ -1,4 +1,4 @@
-use Rattle.std.proofs.Common.{◌≡◌, ℕ, Option, Some, sym, ◌∙◌, ap, arith}
+use Rattle.std.proofs.Common.{ℕ, sym, ◌∙◌, ap, arith}
 use Rattle.closure_sets.specs.ClosureParts.{count}
 use Rattle.closure_sets.specs.Expansion.{lowest, is_open, expand, clashes}
 use Rattle.closure_sets.specs.Found.{sets_of}
@@ -6,7 +6,7 @@ use Rattle.closure_sets.specs.Label.{is_plain}
 use Rattle.closure_sets.specs.Row.{set_of}
 use Rattle.closure_sets.specs.Ways.{ways_rows}
 use Rattle.closure_sets.proofs.Lowest.{lowest_lt}
-use Rattle.closure_sets.proofs.NotedLaws.{expand_noted, ways_noted, way_noted}
+use Rattle.closure_sets.proofs.NotedLaws.{expand_noted, ways_noted}
 use Rattle.closure_sets.proofs.expanding.+treating.Goals as goal
 
 pub expand-ways_of-ways-requires-clause-member : goal.expand-ways_of-ways-requires-clause-member

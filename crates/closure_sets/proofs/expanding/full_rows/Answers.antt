@@ -1,4 +1,4 @@
-use Rattle.std.proofs.Common.{◌≡◌, ℕ, [], sym, ap, ◌∙◌}
+use Rattle.std.proofs.Common.{ℕ, [], sym, ap}
 use Rattle.closure_sets.specs.Cover.{IsMetRow, IsTrueAt}
 use Rattle.closure_sets.specs.Expansion.{expansion}
 use Rattle.closure_sets.specs.Firsts.{AreFirsts}

@@ -1,10 +1,9 @@
-use Rattle.std.proofs.Common.{◌≡◌, List, subst, sym, ◌∙◌, vec_len, arith}
+use Rattle.std.proofs.Common.{List, subst, sym, ◌∙◌}
 use Rattle.closure_sets.specs.Firsts.{IsNoted}
 use Rattle.closure_sets.specs.Found.{sets_of}
 use Rattle.closure_sets.specs.Row.{set_of}
 use Rattle.closure_sets.specs.declared.row.Row.{Row}
-use Rattle.ctl_form.proofs.MemberTableLaws.{popped_back}
-use Rattle.closure_sets.proofs.FoundLaws.{noted_known, noted_new, found_push, found_same}
+use Rattle.closure_sets.proofs.FoundLaws.{noted_known, noted_new, found_push}
 use Rattle.closure_sets.proofs.found.Found.note.Goals as goal
 
 pub returns-then-contains : goal.returns-then-contains

@@ -1,0 +1,143 @@
+-- What is left when nothing is deleted any more is kept, with ranks; and what is met is never deleted.
+use Rattle.std.proofs.Common.{ℕ, zero, suc, ◌≡◌, ◌⊎◌, ◌<◌, ◌+◌, inl, inr, Bool, true, false, cond, Option, Some, None, List, [], ◌∷◌, length, zero-add, add_comm, refl, subst, sym, ◌∙◌, ap, arith, replicate}
+use Rattle.std.specs.Global.{Vec}
+use Rattle.std.proofs.lemmas.Bool.{cases_lt}
+use Rattle.std.proofs.lemmas.List.{get_or_past, get_or-replicate}
+use Rattle.std.proofs.lemmas.List.Sums.{sum_by-cons}
+use Rattle.pair_structure.specs.Role.{RoleParts}
+use Rattle.pair_structure.specs.declared.side.Side.{Side}
+use Rattle.ctl_form.specs.declared.part.Part.{Part}
+use Rattle.ctl_form.specs.declared.part.Part.TheVariants.{Yes, No, Lit, Both, Either, Next, Until}
+use Rattle.closure_sets.specs.ClosureParts.{ClosureParts, IsClosureParts, count}
+use Rattle.closure_sets.specs.Label.{part_of}
+use Rattle.closure_sets.proofs.Closures.{until_lt}
+use Rattle.tableau_graph.specs.Graph.{Graph, graph_of, IsGraph, ChildrenCover, RootCovers}
+use Rattle.tableau_graph.specs.Rules.{IsTableau}
+use Rattle.tableau_graph.specs.TableauParts.{TableauParts}
+use Rattle.deletion_rules.specs.Deletion.{Falls, IsKept, IsStrong, LivesOr}
+use Rattle.deletion_rules.specs.Marks.{lists_of, lives_of, living_count, mark_at, marks_at, rank_of, ranks_of, AreLeft, AreMarksOf, AreTable, IsLeft}
+use Rattle.deletion_rules.specs.Met.{Meets, MetLive}
+use Rattle.deletion_rules.specs.Pruned.{IsUnsatisfiable}
+use Rattle.deletion_rules.specs.Stable.{IsLasting}
+use Rattle.deletion_rules.proofs.Removal.{removal_keeps_met, dead_is_unsatisfiable}
+use Rattle.deletion_rules.proofs.Sweeps.{living_within}
+
+abbrev Within : List Bool → List Bool → Type 0
+Within xs ys = (n : ℕ) → lives_of xs n ≡ true → lives_of ys n ≡ true
+
+count_yes : (xs : List Bool) → living_count (true ∷ xs) ≡ living_count xs + 1
+count_yes xs = sum_by-cons (λ (living : Bool). cond living 1 0) true xs ∙ add_comm 1 (living_count xs)
+
+count_no : (xs : List Bool) → living_count (false ∷ xs) ≡ living_count xs
+count_no xs = sum_by-cons (λ (living : Bool). cond living 1 0) false xs ∙ zero-add (living_count xs)
+
+never : false ≡ true → ⊥
+never e = cc
+
+-- fewer nodes, or the same
+living_falls : (xs ys : List Bool) → length xs ≡ length ys → Within ys xs → (living_count ys < living_count xs) ⊎ ((living_count ys ≡ living_count xs) × Within xs ys)
+living_falls [] [] e h = inr (refl, λ n q. absurd (never q))
+living_falls [] (y ∷ ys) e h = absurd (omega (arith, e))
+living_falls (x ∷ xs) [] e h = absurd (omega (arith, e))
+living_falls (x ∷ xs) (y ∷ ys) e h = by x y (h 0) (living_falls xs ys (omega (arith, e)) (λ n q. h (suc n) q))
+  where
+    by : (x y : Bool) → (y ≡ true → x ≡ true) → (living_count ys < living_count xs) ⊎ ((living_count ys ≡ living_count xs) × Within xs ys) → (living_count (y ∷ ys) < living_count (x ∷ xs)) ⊎ ((living_count (y ∷ ys) ≡ living_count (x ∷ xs)) × Within (x ∷ xs) (y ∷ ys))
+    by true true f (inl l) = inl (omega (arith, l, count_yes xs, count_yes ys))
+    by true true f (inr s) = inr (let q = s.0 in omega (arith, q, count_yes xs, count_yes ys), grown)
+      where
+        grown : Within (true ∷ xs) (true ∷ ys)
+        grown zero q = refl
+        grown (suc n) q = s.1 n q
+    by true false f (inl l) = inl (omega (arith, l, count_yes xs, count_no ys))
+    by true false f (inr s) = inl (let q = s.0 in omega (arith, q, count_yes xs, count_no ys))
+    by false true f d = absurd (never (f refl))
+    by false false f (inl l) = inl (omega (arith, l, count_no xs, count_no ys))
+    by false false f (inr s) = inr (let q = s.0 in omega (arith, q, count_no xs, count_no ys), grown)
+      where
+        grown : Within (false ∷ xs) (false ∷ ys)
+        grown zero q = absurd (never q)
+        grown (suc n) q = s.1 n q
+
+-- all nodes live at first
+pub met_first : (a b : RoleParts) (c : ClosureParts) (g : Graph) (lives : List Bool) → lives ≡ replicate g.ands true → MetLive a b c g (lives_of lives)
+met_first a b c g lives e m over s n lt meets = ap (λ (l : List Bool). lives_of l n) e ∙ get_or-replicate g.ands n true false meets.node
+
+rank_strong : (c : ClosureParts) (g : Graph) (lives : ℕ → Bool) (u n r : ℕ) (marks : List (Option ℕ)) (part : Part) → part_of c u ≡ part → AreMarksOf c g lives u marks → mark_at marks n ≡ Some r → (lives n ≡ true) × ((all : Bool) × (f : ℕ) × (second : ℕ) × IsStrong c g n u all f second)
+rank_strong c g lives u n r marks part p h e = by part p
+  where
+    none : ((all : Bool) (f second : ℕ) → part_of c u ≡ Until all false f second → ⊥) → (lives n ≡ true) × ((all : Bool) × (f : ℕ) × (second : ℕ) × IsStrong c g n u all f second)
+    none other = absurd (let q : mark_at marks n ≡ None = ap (λ (m : List (Option ℕ)). mark_at m n) (h.other other) in let x : None ≡ Some r = sym q ∙ e in cc)
+
+    by : (part : Part) → part_of c u ≡ part → (lives n ≡ true) × ((all : Bool) × (f : ℕ) × (second : ℕ) × IsStrong c g n u all f second)
+    by (Until all false f g') q = let s = (h.strong all f g' q).sound.seen n r e in (s.living, (all, f, g', record { part = q; member = s.member }))
+    by (Until all true f g') q = none (λ all' f' s' z. cc)
+    by Yes q = none (λ all' f' s' z. cc)
+    by No q = none (λ all' f' s' z. cc)
+    by (Lit side local is) q = none (λ all' f' s' z. cc)
+    by (Both f g') q = none (λ all' f' s' z. cc)
+    by (Either f g') q = none (λ all' f' s' z. cc)
+    by (Next all side f) q = none (λ all' f' s' z. cc)
+
+module _ (t : TableauParts) (lives left : List Bool) (table : List (List (Option ℕ))) (long : length lives ≡ length t.ands) (h : AreTable t.closure (graph_of t) (lives_of lives) (count t.closure) table) (l : AreLeft t.closure (graph_of t) (lives_of lives) table (length t.ands) left) where
+  left_within : (n : ℕ) → lives_of left n ≡ true → n < length t.ands
+  left_within n e = let lt = living_within left n e in let q = l.long in omega (arith, lt, q)
+
+  fewer : Within left lives
+  fewer n e = (l.stays n (left_within n e) e).living
+
+  same_long : length lives ≡ length left
+  same_long = long ∙ sym l.long
+
+  pub left_less : (a b : ℕ) (v w : List Bool) → a ≡ living_count v → v ≡ left → b ≡ living_count w → w ≡ lives → (a ≡ b → ⊥) → living_count left < living_count lives
+  left_less a b v w e p f q differ = elim (living_falls lives left same_long fewer) [ inl x ↦ x | inr s ↦ absurd (differ (e ∙ ap living_count p ∙ s.0 ∙ sym (f ∙ ap living_count q))) ]
+
+  module _ (a b : ℕ) (v w : List Bool) (e : a ≡ living_count v) (p : v ≡ left) (f : b ≡ living_count w) (q : w ≡ lives) (same : a ≡ b) where
+    all_left : Within lives left
+    all_left = elim (living_falls lives left same_long fewer) [ inl x ↦ absurd (let z : living_count left ≡ living_count lives = sym (e ∙ ap living_count p) ∙ same ∙ f ∙ ap living_count q in omega (arith, x, z)) | inr s ↦ s.1 ]
+
+    is_left : (n : ℕ) → lives_of lives n ≡ true → IsLeft t.closure (graph_of t) (lives_of lives) table n
+    is_left n x = l.stays n (left_within n (all_left n x)) (all_left n x)
+
+    of_rank : (n u f' second r : ℕ) (all : Bool) → Falls t.closure (graph_of t) (lives_of lives) (rank_of (marks_at table u)) all u f' second r n → Falls t.closure (graph_of t) (lives_of lives) (ranks_of table) all u f' second r n
+    of_rank n u f' second r true y = y
+    of_rank n u f' second r false y = y
+
+    ranked : (n u f' second : ℕ) (all : Bool) → lives_of lives n ≡ true → IsStrong t.closure (graph_of t) n u all f' second → (r : ℕ) × (ranks_of table n u ≡ Some r) × Falls t.closure (graph_of t) (lives_of lives) (ranks_of table) all u f' second r n
+    ranked n u f' second all x strong = let m = (is_left n x).marked u f' second all strong in let s = ((h.each u (until_lt t.closure u f' second all false strong.part)).strong all f' second strong.part).sound.seen n m.0 m.1 in (m.0, m.1, of_rank n u f' second m.0 all s.falls)
+
+    only : (n u r : ℕ) → ranks_of table n u ≡ Some r → (lives_of lives n ≡ true) × ((all : Bool) × (f' : ℕ) × (second : ℕ) × IsStrong t.closure (graph_of t) n u all f' second)
+    only n u r x = elim (cases_lt u (length table)) [ inl lt ↦ rank_strong t.closure (graph_of t) (lives_of lives) u n r (marks_at table u) (part_of t.closure u) refl (h.each u (let z = h.long in omega (arith, lt, z))) x | inr o ↦ absurd (let z : mark_at (marks_at table u) n ≡ None = ap (λ (m : List (Option ℕ)). mark_at m n) (get_or_past table u [] o) in let y : None ≡ Some r = sym z ∙ x in cc) ]
+
+    pub left_kept : IsKept t.closure (graph_of t) (lives_of lives) (ranks_of table)
+    left_kept = record {
+      nodes = λ n x. let lt = living_within lives n x in omega (arith, lt, long);
+      successors = λ n i h' side x some. (is_left n x).successors i h' side some;
+      ranks = record { some = ranked; only = only };
+    }
+
+pub met_left : (t : TableauParts) → IsTableau t → IsGraph t.closure (graph_of t) → ChildrenCover t.a t.b t.closure (graph_of t) → (lives left : List Bool) (table : List (List (Option ℕ))) → MetLive t.a t.b t.closure (graph_of t) (lives_of lives) → AreLeft t.closure (graph_of t) (lives_of lives) table (length t.ands) left → MetLive t.a t.b t.closure (graph_of t) (lives_of left)
+met_left t k ok cover lives left table live l = removal_keeps_met t.a t.b t.closure k.rules.closure (graph_of t) ok cover (lives_of lives) (lives_of left) live (λ n lt e. l.gone n lt e)
+
+pub met_dead : (t : TableauParts) → IsTableau t → IsGraph t.closure (graph_of t) → RootCovers t.a t.b t.closure (graph_of t) 0 → (lives : List Bool) → MetLive t.a t.b t.closure (graph_of t) (lives_of lives) → (LivesOr (graph_of t) (lives_of lives) 0 → ⊥) → IsUnsatisfiable t
+met_dead t k ok cover lives live dead m over holds = dead_is_unsatisfiable t.a t.b t.closure k.rules.closure (graph_of t) ok 0 cover (lives_of lives) live dead m over holds
+
+-- a round of the loop, as its calls tell of it; views: the lists as slices
+module _ (t : TableauParts) (k : IsTableau t) (lives left first second : List Bool) (table view : List (Vec (Option ℕ))) (long : length lives ≡ length t.ands) (live : MetLive t.a t.b t.closure (graph_of t) (lives_of lives)) (seen_first : first ≡ lives) (seen_second : second ≡ lives) (seen_table : view ≡ table) (h : AreTable t.closure (graph_of t) (lives_of first) (count t.closure) (lists_of table)) (l : AreLeft t.closure (graph_of t) (lives_of second) (lists_of view) (length t.ands) left) where
+  marks : AreTable t.closure (graph_of t) (lives_of lives) (count t.closure) (lists_of table)
+  marks = subst (λ (v : List Bool). AreTable t.closure (graph_of t) (lives_of v) (count t.closure) (lists_of table)) seen_first h
+
+  rest : AreLeft t.closure (graph_of t) (lives_of lives) (lists_of table) (length t.ands) left
+  rest = subst (λ (v : List Bool). AreLeft t.closure (graph_of t) (lives_of v) (lists_of table) (length t.ands) left) seen_second (subst (λ (v : List (Vec (Option ℕ))). AreLeft t.closure (graph_of t) (lives_of second) (lists_of v) (length t.ands) left) seen_table l)
+
+  pub round_long : length left ≡ length t.ands
+  round_long = rest.long
+
+  pub round_met : IsGraph t.closure (graph_of t) → ChildrenCover t.a t.b t.closure (graph_of t) → MetLive t.a t.b t.closure (graph_of t) (lives_of left)
+  round_met ok cover = met_left t k ok cover lives left (lists_of table) live rest
+
+  module _ (a b : ℕ) (v w : List Bool) (e : a ≡ living_count v) (p : v ≡ left) (f : b ≡ living_count w) (q : w ≡ lives) where
+    pub round_less : (a ≡ b → ⊥) → living_count left < living_count lives
+    round_less differ = left_less t lives left (lists_of table) long marks rest a b v w e p f q differ
+
+    pub round_last : a ≡ b → IsLasting t lives table
+    round_last same = record { long = long; kept = left_kept t lives left (lists_of table) long marks rest a b v w e p f q same; met = live }

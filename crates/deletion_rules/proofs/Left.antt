@@ -1,0 +1,117 @@
+-- What the rules leave of the nodes, by the marks of their strong untils.
+use Rattle.std.proofs.Common.{ℕ, zero, suc, ◌≡◌, ◌⊎◌, ◌<◌, ◌+◌, ◌++◌, inl, inr, Bool, true, false, ◌&&◌, Option, Some, None, is_none, List, [], ◌∷◌, Contains, length, length-append, refl, subst, sym, ◌∙◌, ap, arith}
+use Rattle.std.proofs.Math.Decide.{dec_lt}
+use Rattle.std.proofs.lemmas.List.{get_or_append_left, get_or_push}
+use Rattle.pair_structure.specs.declared.side.Side.{Side}
+use Rattle.pair_structure.specs.declared.side.Side.TheVariants.{A, B}
+use Rattle.ctl_form.specs.declared.part.Part.{Part}
+use Rattle.ctl_form.specs.declared.part.Part.TheVariants.{Yes, No, Lit, Both, Either, Next, Until}
+use Rattle.closure_sets.specs.ClosureParts.{ClosureParts, IsClosureParts, after, count}
+use Rattle.closure_sets.specs.Full.{Has}
+use Rattle.closure_sets.specs.Label.{part_of}
+use Rattle.closure_sets.proofs.Closures.{until_lt, after_part}
+use Rattle.tableau_graph.specs.Graph.{Graph, graph_of, IsGraph, IsSomeNext}
+use Rattle.tableau_graph.specs.Rules.{IsTableau}
+use Rattle.tableau_graph.specs.TableauParts.{TableauParts}
+use Rattle.deletion_rules.specs.Deletion.{SomeChild, HasLower, Fulfilled, IsStrong, IsSupported}
+use Rattle.deletion_rules.specs.Marks.{lives_of, mark_at, marks_at, rank_of, ranks_of, AreLeft, AreMarks, AreTable, IsLeft, IsSeen}
+use Rattle.deletion_rules.specs.Tests.{is_missing, is_strong, lives_on}
+use Rattle.deletion_rules.proofs.Seen.{both_of, of_both, lives_on_in, lives_on_out}
+use Rattle.deletion_rules.proofs.Survive.{full_until}
+
+after_of : (c : ClosureParts) (g : Graph) (n u : ℕ) → Has (g.row n) (after c A u) → Has (g.row n) (after c B u) → (side : Side) → Has (g.row n) (after c side u)
+after_of c g n u x y A = x
+after_of c g n u x y B = y
+
+module _ (c : ClosureParts) (k : IsClosureParts c) (g : Graph) (ok : IsGraph c g) (lives : ℕ → Bool) (within : (n : ℕ) → lives n ≡ true → n < g.ands) (u f second : ℕ) where
+  -- the until goes on to the children of a successor
+  brought : (n i h child : ℕ) (side : Side) → part_of c u ≡ Until true false f second → Has (g.row n) (after c side u) → IsSomeNext c g n i side h → Contains (g.children (g.next_or n i)) child → Has (g.row child) u
+  brought n i h child side p has some there = ok.keeps (g.next_or n i) child u there ((ok.seeded n i h side some u).1 (inr (after c side u, after_part c k u f second true false side p, has)))
+
+  own : (n child : ℕ) (side : Side) → n < g.ands → part_of c u ≡ Until false false f second → Has (g.row n) (after c side u) → Contains (g.children (g.next_or n (after c side u))) child → Has (g.row child) u
+  own n child side node p has there = ok.keeps (g.next_or n (after c side u)) child u there ((ok.seeded n (after c side u) u side (record { node = node; member = has; part = after_part c k u f second false false side p }) u).1 (inl refl))
+
+  module _ (all : Bool) (p : part_of c u ≡ Until all false f second) (marks : List (Option ℕ)) (h : AreMarks c g lives all u f second marks) where
+    IsMarked : ℕ → Type 0
+    IsMarked n = (r : ℕ) × (mark_at marks n ≡ Some r)
+
+    -- a child with a mark
+    lower : (o : ℕ) → (child : ℕ) × Contains (g.children o) child × (lives child ≡ true) × ((r : ℕ) × (mark_at marks child ≡ Some r)) → HasLower g lives (rank_of marks) u h.round o
+    lower o v = (v.0, v.1, v.2, (v.3.0, v.3.1, h.sound.below v.0 v.3.0 v.3.1))
+
+  each_marked : (marks : List (Option ℕ)) → part_of c u ≡ Until true false f second → (h : AreMarks c g lives true u f second marks) → (d n : ℕ) → lives n ≡ true → Has (g.row n) u → Fulfilled c g lives true u f second d n → (r : ℕ) × (mark_at marks n ≡ Some r)
+  each_marked marks p h zero n alive has y = h.full n (record { living = alive; member = has; falls = inl y })
+  each_marked marks p h (suc d) n alive has (inl y) = h.full n (record { living = alive; member = has; falls = inl y })
+  each_marked marks p h (suc d) n alive has (inr v) = by (full_until c k g ok n u f second true false (within n alive) p has) (λ child l x y. each_marked marks p h d child l x y)
+    where
+      by : Has (g.row n) second ⊎ (Has (g.row n) f × Has (g.row n) (after c A u) × Has (g.row n) (after c B u)) → ((child : ℕ) → lives child ≡ true → Has (g.row child) u → Fulfilled c g lives true u f second d child → (r : ℕ) × (mark_at marks child ≡ Some r)) → (r : ℕ) × (mark_at marks n ≡ Some r)
+      by (inl y) again = h.full n (record { living = alive; member = has; falls = inl y })
+      by (inr w) again = h.full n (record { living = alive; member = has; falls = inr (w.0, λ i h' side some. let z = v.1 i h' side some in lower true p marks h (g.next_or n i) (z.0, z.1, z.2, again z.0 z.2 (brought n i h' z.0 side p (after_of c g n u w.1 w.2 side) some z.1) z.3)) })
+
+  some_marked : (marks : List (Option ℕ)) → part_of c u ≡ Until false false f second → (h : AreMarks c g lives false u f second marks) → (d n : ℕ) → lives n ≡ true → Has (g.row n) u → Fulfilled c g lives false u f second d n → (r : ℕ) × (mark_at marks n ≡ Some r)
+  some_marked marks p h zero n alive has y = h.full n (record { living = alive; member = has; falls = inl y })
+  some_marked marks p h (suc d) n alive has (inl y) = h.full n (record { living = alive; member = has; falls = inl y })
+  some_marked marks p h (suc d) n alive has (inr v) = let side = v.1.0 in let z = v.1.2 in
+      let low = lower false p marks h (g.next_or n (after c side u)) (z.0, z.1, z.2, some_marked marks p h d z.0 z.2 (own n z.0 side (within n alive) p v.1.1 z.1) z.3) in
+      h.full n (record { living = alive; member = has; falls = inr (v.0, (side, v.1.1, low)) })
+
+  -- where the until is fulfilled there is a mark
+  pub fulfilled_marked : (all : Bool) → part_of c u ≡ Until all false f second → (marks : List (Option ℕ)) → AreMarks c g lives all u f second marks → (d n : ℕ) → lives n ≡ true → Has (g.row n) u → Fulfilled c g lives all u f second d n → (r : ℕ) × (mark_at marks n ≡ Some r)
+  fulfilled_marked true p marks h = each_marked marks p h
+  fulfilled_marked false p marks h = some_marked marks p h
+
+strong_part : (part : Part) → is_strong part ≡ true → (all : Bool) × (f : ℕ) × (second : ℕ) × (part ≡ Until all false f second)
+strong_part (Until all false f g) e = (all, f, g, refl)
+strong_part (Until all true f g) e = absurd (let q : false ≡ true = e in cc)
+strong_part Yes e = absurd (let q : false ≡ true = e in cc)
+strong_part No e = absurd (let q : false ≡ true = e in cc)
+strong_part (Lit side local is) e = absurd (let q : false ≡ true = e in cc)
+strong_part (Both f g) e = absurd (let q : false ≡ true = e in cc)
+strong_part (Either f g) e = absurd (let q : false ≡ true = e in cc)
+strong_part (Next all side f) e = absurd (let q : false ≡ true = e in cc)
+
+none_mark : (o : Option ℕ) → is_none o ≡ true → (r : ℕ) × (o ≡ Some r) → ⊥
+none_mark o e u = let q : is_none (Some u.0) ≡ true = subst (λ (x : Option ℕ). is_none x ≡ true) u.1 e in let f : false ≡ true = q in cc
+
+some_mark : (o : Option ℕ) → is_none o ≡ false → (r : ℕ) × (o ≡ Some r)
+some_mark (Some r) e = (r, refl)
+some_mark None e = absurd (let q : true ≡ false = e in cc)
+
+not_missing : (a b d : Bool) → a && (b && d) ≡ false → a ≡ true → b ≡ true → d ≡ false
+not_missing true true d e p q = e
+not_missing true false d e p q = absurd (let x : false ≡ true = q in cc)
+not_missing false b d e p q = absurd (let x : false ≡ true = p in cc)
+
+module _ (t : TableauParts) (k : IsTableau t) (ok : IsGraph t.closure (graph_of t)) (lives : List Bool) (within : (n : ℕ) → lives_of lives n ≡ true → n < length t.ands) (table : List (List (Option ℕ))) (h : AreTable t.closure (graph_of t) (lives_of lives) (count t.closure) table) (n : ℕ) (small : n < length t.ands) where
+  -- a node that no rule deletes
+  pub left_yes : lives_of lives n ≡ true → lives_on t lives n ≡ true → ((u : ℕ) → u < count t.closure → is_missing t table n u ≡ false) → IsLeft t.closure (graph_of t) (lives_of lives) table n
+  left_yes alive on none = record { living = alive; successors = lives_on_out t k lives n on; marked = λ u f second all strong. some_mark (ranks_of table n u) (not_missing ((graph_of t).row n u) (is_strong (part_of t.closure u)) (is_none (ranks_of table n u)) (none u (until_lt t.closure u f second all false strong.part)) strong.member (ap is_strong strong.part)) }
+
+  -- one without a living child of some successor
+  pub left_apart : lives_on t lives n ≡ false → IsSupported t.closure (graph_of t) (lives_of lives) n → ⊥
+  left_apart off s = let q : true ≡ false = sym (lives_on_in t k lives n small s.successors) ∙ off in cc
+
+  -- one with a strong until that is not fulfilled
+  pub left_missing : lives_of lives n ≡ true → (u : ℕ) → u < count t.closure → is_missing t table n u ≡ true → IsSupported t.closure (graph_of t) (lives_of lives) n → ⊥
+  left_missing alive u lt e s =
+      let a = both_of ((graph_of t).row n u) (is_strong (part_of t.closure u) && is_none (ranks_of table n u)) e in
+      let b = both_of (is_strong (part_of t.closure u)) (is_none (ranks_of table n u)) a.1 in
+      let p = strong_part (part_of t.closure u) b.0 in
+      let f = s.fulfilled u p.1 p.2 p.0 (record { part = p.3; member = a.0 }) in
+      none_mark (ranks_of table n u) b.1 (fulfilled_marked t.closure k.rules.closure (graph_of t) ok (lives_of lives) within u p.1 p.2 p.0 p.3 (marks_at table u) ((h.each u lt).strong p.0 p.1 p.2 p.3) f.0 n alive a.0 f.1)
+
+pub left_push : (c : ClosureParts) (g : Graph) (lives : ℕ → Bool) (table : List (List (Option ℕ))) (k : ℕ) (left more : List Bool) (x : Bool) → AreLeft c g lives table k left → more ≡ left ++ x ∷ [] → (x ≡ true → IsLeft c g lives table k) → (x ≡ false → (lives k ≡ false) ⊎ (IsSupported c g lives k → ⊥)) → AreLeft c g lives table (k + 1) more
+left_push c g lives table k left more x h e left_here gone_here = record {
+  long = ap length e ∙ long;
+  stays = λ n lt q. elim (dec_lt n k) [ yes b ↦ h.stays n b (sym (before n b) ∙ q) | no o ↦ (let z : k ≡ n = omega (arith, lt, o) in subst (IsLeft c g lives table) z (left_here (sym here ∙ subst (λ j. lives_of more j ≡ true) (sym z) q))) ];
+  gone = λ n lt q. elim (dec_lt n k) [ yes b ↦ h.gone n b (sym (before n b) ∙ q) | no o ↦ (let z : k ≡ n = omega (arith, lt, o) in subst (λ j. (lives j ≡ false) ⊎ (IsSupported c g lives j → ⊥)) z (gone_here (sym here ∙ subst (λ j. lives_of more j ≡ false) (sym z) q))) ];
+}
+  where
+    long : length (left ++ x ∷ []) ≡ k + 1
+    long = let l : length left ≡ k = h.long in omega (arith, l, length-append left (x ∷ []))
+
+    here : lives_of more k ≡ x
+    here = ap (λ (l : List Bool). lives_of l k) e ∙ get_or_push left x false k h.long
+
+    before : (n : ℕ) → n < k → lives_of more n ≡ lives_of left n
+    before n lt = ap (λ (l : List Bool). lives_of l n) e ∙ get_or_append_left left (x ∷ []) false n (let l = h.long in omega (arith, lt, l))

@@ -1,0 +1,55 @@
+-- The table of marks.
+use Rattle.std.proofs.Common.{ℕ, ◌≡◌, ◌<◌, ◌+◌, ◌++◌, Bool, true, false, Option, List, [], ◌∷◌, length, length-append, refl, subst, sym, ◌∙◌, ap, arith, slice_index_or}
+use Rattle.std.specs.Global.{Vec}
+use Rattle.std.proofs.Math.Decide.{dec_lt}
+use Rattle.std.proofs.lemmas.List.{get_or_append_left, get_or_push, map-append}
+use Rattle.pair_structure.specs.declared.side.Side.TheVariants.{A, B}
+use Rattle.ctl_form.specs.declared.part.Part.TheVariants.{Until}
+use Rattle.closure_sets.specs.ClosureParts.{ClosureParts, IsClosureParts, count}
+use Rattle.closure_sets.specs.Label.{part_of}
+use Rattle.closure_sets.proofs.MarkLaws.{below_of}
+use Rattle.tableau_graph.specs.Graph.{Graph}
+use Rattle.deletion_rules.specs.Marks.{lists_of, marks_at, AreMarks, AreMarksOf, AreTable}
+use Rattle.deletion_rules.specs.Tests.{IsGoal}
+use Rattle.deletion_rules.specs.declared.goal.Goal.{Goal}
+
+pub goal_of : (c : ClosureParts) → IsClosureParts c → (all : Bool) (u f g : ℕ) → u < count c → part_of c u ≡ Until all false f g → IsGoal c (record { all = all; member = u; f = f; second = g })
+goal_of c k all u f g lt p = let below = below_of c k u (Until all false f g) lt p in record {
+  part = p;
+  member = lt;
+  first = below.0;
+  second = below.1;
+  after_a = (k.nexts u f g all false A lt p).0;
+  after_b = (k.nexts u f g all false B lt p).0;
+  few = k.numbering.few;
+}
+
+until_same : {all all' : Bool} {f f' g g' : ℕ} → Until all false f g ≡ Until all' false f' g' → (all ≡ all') × (f ≡ f') × (g ≡ g')
+until_same e = (cc, cc, cc)
+
+pub marks_of_strong : (c : ClosureParts) (g : Graph) (lives : ℕ → Bool) (u : ℕ) (all : Bool) (f second : ℕ) (marks : List (Option ℕ)) → part_of c u ≡ Until all false f second → AreMarks c g lives all u f second marks → AreMarksOf c g lives u marks
+marks_of_strong c g lives u all f second marks p h = record { strong = λ all' f' second' q. by all' f' second' (until_same (sym p ∙ q)); other = λ none. absurd (none all f second p) }
+  where
+    by : (all' : Bool) (f' second' : ℕ) → (all ≡ all') × (f ≡ f') × (second ≡ second') → AreMarks c g lives all' u f' second' marks
+    by all' f' second' e = subst (λ b. AreMarks c g lives b u f' second' marks) e.0 (subst (λ x. AreMarks c g lives all u x second' marks) e.1 (subst (λ x. AreMarks c g lives all u f x marks) e.2 h))
+
+pub marks_of_other : (c : ClosureParts) (g : Graph) (lives : ℕ → Bool) (u : ℕ) (marks : List (Option ℕ)) → ((all : Bool) (f second : ℕ) → part_of c u ≡ Until all false f second → ⊥) → marks ≡ [] → AreMarksOf c g lives u marks
+marks_of_other c g lives u marks none e = record { strong = λ all f second p. absurd (none all f second p); other = λ _. e }
+
+pub table_push : (c : ClosureParts) (g : Graph) (lives : ℕ → Bool) (k : ℕ) (table more : List (Vec (Option ℕ))) (x : Vec (Option ℕ)) → AreTable c g lives k (lists_of table) → more ≡ table ++ x ∷ [] → AreMarksOf c g lives k x.items → AreTable c g lives (k + 1) (lists_of more)
+table_push c g lives k table more x h e new = record { long = ap length same ∙ long; each = each }
+  where
+    same : lists_of more ≡ lists_of table ++ x.items ∷ []
+    same = ap lists_of e ∙ map-append (λ (marks : Vec (Option ℕ)). marks.items) table (x ∷ [])
+
+    long : length (lists_of table ++ x.items ∷ []) ≡ k + 1
+    long = let l : length (lists_of table) ≡ k = h.long in omega (arith, l, length-append (lists_of table) (x.items ∷ []))
+
+    here : marks_at (lists_of more) k ≡ x.items
+    here = ap (λ (l : List (List (Option ℕ))). marks_at l k) same ∙ get_or_push (lists_of table) x.items [] k h.long
+
+    before : (u : ℕ) → u < k → marks_at (lists_of more) u ≡ marks_at (lists_of table) u
+    before u lt = ap (λ (l : List (List (Option ℕ))). marks_at l u) same ∙ get_or_append_left (lists_of table) (x.items ∷ []) [] u (let l = h.long in omega (arith, lt, l))
+
+    each : (u : ℕ) → u < k + 1 → AreMarksOf c g lives u (marks_at (lists_of more) u)
+    each u lt = elim (dec_lt u k) [ yes b ↦ subst (AreMarksOf c g lives u) (sym (before u b)) (h.each u b) | no o ↦ (let q : k ≡ u = omega (arith, lt, o) in subst (λ j. AreMarksOf c g lives j (marks_at (lists_of more) j)) q (subst (AreMarksOf c g lives k) (sym here) new)) ]

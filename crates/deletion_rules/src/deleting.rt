@@ -1,0 +1,134 @@
+ghost use Rattle.std.specs.Prelude.{◌≡◌, ◌⊎◌, ◌<◌, ℕ, true, false, Some, None, length, IfOk};
+ghost use Rattle.closure_sets.specs.ClosureParts.{count};
+ghost use Rattle.deletion_rules.specs.Deletion.{IsSupported};
+ghost use Rattle.deletion_rules.specs.Marks.{lists_of, lives_of, living_count, ranks_of, AreLeft, AreTable, IsLeft};
+ghost use Rattle.deletion_rules.specs.Tests.{is_missing, is_strong, lives_on, lives_or};
+ghost use Rattle.tableau_graph.specs.Graph.{graph_of};
+
+use ctl_form::Part;
+use pair_structure::Memory;
+use std::alloc::Global;
+use tableau_graph::{Tableau, tableau_is_graph};
+
+/// Whether some child of the OR node lives.
+pub(crate) fn lives_or(t: &Tableau, lives: &[bool], or: u64) -> bool
+    requires or { or < length t.now.ors }
+    requires lives { length lives.now ≡ length t.now.ands }
+    ensures { result ≡ lives_or t.now lives.now or }
+{
+    let _nodes = t.ands();
+    for child in t.children(or) {
+        if lives[*child as usize] {
+            return true;
+        }
+    }
+    false
+}
+
+/// Whether each OR successor has a living child.
+fn lives_on(t: &Tableau, lives: &[bool], n: u64) -> bool
+    requires n { n < length t.now.ands }
+    requires lives { length lives.now ≡ length t.now.ands }
+    ensures { result ≡ lives_on t.now lives.now n }
+{
+    let _nodes = t.ands();
+    for or in t.successors(n) {
+        if !lives_or(t, lives, *or) {
+            return false;
+        }
+    }
+    true
+}
+
+fn is_strong(part: Part) -> bool
+    ensures { result ≡ is_strong part }
+{
+    match part {
+        Part::Until { weak: true, .. } => false,
+        Part::Until { weak: false, .. } => true,
+        _ => false,
+    }
+}
+
+/// The rank of a member at a node, by the table of marks.
+pub(crate) fn rank_at(table: &[Vec<Option<u64>>], n: u64, member: u32) -> Option<u64>
+    ensures { result ≡ ranks_of (lists_of table.now) n member }
+{
+    let marks = table.get(member as usize)?;
+    *marks.get(n as usize)?
+}
+
+/// Whether the member is a strong until of the node's row that has no mark.
+fn is_missing(t: &Tableau, table: &[Vec<Option<u64>>], n: u64, member: u32) -> bool
+    requires n { n < length t.now.ands }
+    requires member { member < count t.now.closure }
+    ensures { result ≡ is_missing t.now (lists_of table.now) n member }
+{
+    let _few = t.closure().count();
+    if !t.ands()[n as usize].row.has(member) {
+        return false;
+    }
+    is_strong(t.closure().part(member)) && rank_at(table, n, member).is_none()
+}
+
+/// A strong until of the node's row that has no mark.
+fn first_missing(t: &Tableau, table: &[Vec<Option<u64>>], n: u64) -> Option<u32>
+    requires n { n < length t.now.ands }
+    ensures some { (u : ℕ) → result ≡ Some u → (u < count t.now.closure) × (is_missing t.now (lists_of table.now) n u ≡ true) }
+    ensures none { result ≡ None → (u : ℕ) → u < count t.now.closure → is_missing t.now (lists_of table.now) n u ≡ false }
+{
+    for member in 0..t.closure().count() {
+        if is_missing(t, table, n, member) {
+            return Some(member);
+        }
+    }
+    None
+}
+
+/// Whether no rule deletes the node.
+fn stays(t: &Tableau, lives: &[bool], table: &[Vec<Option<u64>>], n: u64) -> bool
+    requires n { n < length t.now.ands }
+    requires lives { length lives.now ≡ length t.now.ands }
+    requires table { AreTable t.now.closure (graph_of t.now) (lives_of lives.now) (count t.now.closure) (lists_of table.now) }
+    ensures left { result ≡ true → IsLeft t.now.closure (graph_of t.now) (lives_of lives.now) (lists_of table.now) n }
+    ensures gone { result ≡ false → (lives_of lives.now n ≡ false) ⊎ (IsSupported t.now.closure (graph_of t.now) (lives_of lives.now) n → ⊥) }
+{
+    let _nodes = t.ands();
+    tableau_is_graph();
+    if !lives[n as usize] {
+        return false;
+    }
+    if !lives_on(t, lives, n) {
+        return false;
+    }
+    match first_missing(t, table, n) {
+        Some(_) => false,
+        None => true,
+    }
+}
+
+/// The nodes that no rule deletes.
+pub(crate) fn left_of(
+    alloc: Global,
+    t: &Tableau,
+    lives: &[bool],
+    table: &[Vec<Option<u64>>],
+) -> Result<Vec<bool>, Memory>
+    requires lives { length lives.now ≡ length t.now.ands }
+    requires table { AreTable t.now.closure (graph_of t.now) (lives_of lives.now) (count t.now.closure) (lists_of table.now) }
+    ensures { IfOk result (λ left. AreLeft t.now.closure (graph_of t.now) (lives_of lives.now) (lists_of table.now) (length t.now.ands) left.items) }
+{
+    let nodes = t.ands().len();
+    let mut left = Vec::with_capacity(alloc, nodes)?;
+    for n in 0..nodes {
+        left.push(stays(t, lives, table, n as u64))?;
+    }
+    Ok(left)
+}
+
+/// How many nodes live.
+pub(crate) fn living_count(lives: &[bool]) -> usize
+    ensures { result ≡ living_count lives.now }
+{
+    lives.iter().filter(|living| **living).count()
+}

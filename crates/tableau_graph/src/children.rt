@@ -1,0 +1,99 @@
+ghost use Rattle.std.specs.Prelude.{◌≡◌, ◌++◌, ◌↔◌, ℕ, IfOk, OnOk, MatchOption, Contains, map};
+ghost use Rattle.closure_sets.specs.Row.{set_of};
+ghost use Rattle.tableau_graph.specs.Growing.{AreEnds, AreNodesAt, IsEnd, and_with, arcs_of};
+ghost use Rattle.tableau_graph.specs.Rules.{LeadsTo};
+
+use crate::push_some::push_some;
+use crate::{AndNode, OrNode};
+use closure_sets::{Closure, Row, full_rows};
+use pair_structure::{LocalArc, Memory, Role, Side};
+use std::alloc::Global;
+
+/// The pairs that an OR node leads to. Linear in the arcs of its side.
+pub(crate) fn pairs_of(
+    alloc: Global,
+    a: &Role,
+    b: &Role,
+    node: &OrNode,
+) -> Result<Vec<(u8, u8)>, Memory>
+    ensures { IfOk result (λ pairs. (pair : ℕ × ℕ) → Contains pairs.items pair ↔ LeadsTo a.now b.now node.now.side (node.now.a, node.now.b) pair) }
+{
+    let pair = (node.a, node.b);
+    match node.side {
+        None => Ok(Vec::from_slice(alloc, &[pair])?),
+        Some(side) => Ok(ends_of(alloc, side, pair, arcs_of(a, b, side))?),
+    }
+}
+
+fn arcs_of<'a>(a: &'a Role, b: &'a Role, side: Side) -> &'a [LocalArc]
+    ensures { result.now ≡ arcs_of a.now b.now side }
+{
+    match side {
+        Side::A => a.arcs(),
+        Side::B => b.arcs(),
+    }
+}
+
+fn ends_of(
+    alloc: Global,
+    side: Side,
+    pair: (u8, u8),
+    arcs: &[LocalArc],
+) -> Result<Vec<(u8, u8)>, Memory>
+    ensures { IfOk result (λ ends. AreEnds side pair arcs.now ends.items) }
+{
+    let mut ends = Vec::new(alloc);
+    for arc in arcs {
+        push_some(&mut ends, end_of(side, pair, arc))?;
+    }
+    Ok(ends)
+}
+
+fn end_of(side: Side, pair: (u8, u8), arc: &LocalArc) -> Option<(u8, u8)>
+    ensures { MatchOption result ((end : ℕ × ℕ) → IsEnd side pair arc.now end → ⊥) (IsEnd side pair arc.now) }
+{
+    match side {
+        Side::A => {
+            if arc.from == pair.0 {
+                return Some((arc.to, pair.1));
+            }
+        }
+        Side::B => {
+            if arc.from == pair.1 {
+                return Some((pair.0, arc.to));
+            }
+        }
+    }
+    None
+}
+
+/// The nodes of a seed at these pairs: one for each row of an expansion.
+pub(crate) fn nodes_at(
+    alloc: Global,
+    c: &Closure,
+    pairs: &[(u8, u8)],
+    seed: &Row,
+) -> Result<Vec<AndNode>, Memory>
+    ensures { IfOk result (λ nodes. AreNodesAt c.now pairs.now (set_of seed.now.words) nodes.items) }
+{
+    let mut nodes = Vec::new(alloc);
+    for pair in pairs {
+        let rows = full_rows(alloc, c, pair.0, pair.1, seed)?;
+        push_each(&mut nodes, *pair, &rows)?;
+    }
+    Ok(nodes)
+}
+
+/// Puts a node for each row behind the others.
+fn push_each(nodes: &mut Vec<AndNode>, pair: (u8, u8), rows: &[Row]) -> Result<(), Memory>
+    ensures { OnOk result (nodes.new.items ≡ nodes.old.items ++ map (and_with pair) rows.now) }
+{
+    for row in rows {
+        nodes.push(AndNode {
+            a: pair.0,
+            b: pair.1,
+            row: *row,
+        })?;
+    }
+    Ok(())
+}
