@@ -7,6 +7,7 @@ use Rattle.closure_sets.specs.ClosureParts.{ClosureParts}
 use Rattle.closure_sets.specs.Full.{Has}
 use Rattle.closure_sets.specs.Label.{part_of}
 use Rattle.closure_sets.specs.Row.{Members}
+use Rattle.deletion_rules.specs.Picking.{Pending}
 use Rattle.deletion_rules.specs.Unravel.{IsPending}
 
 pub decided_has : (b : Bool) → Decided (b ≡ true)
@@ -49,10 +50,6 @@ module _ (c : ClosureParts) (row : Members) (u : ℕ) where
 
   pub pending_case : PendingCase c row u
   pending_case = by_part (part_of c u) refl
-
--- it pends, of whichever kind
-abbrev pub Pending : ClosureParts → Members → ℕ → Type 0
-Pending c row u = (all : Bool) × IsPending c row all u
 
 pub decided_pending : (c : ClosureParts) (row : Members) (u : ℕ) → Decided (Pending c row u)
 decided_pending c row u = elim (pending_case c row u) [ inl x ↦ inl (true, x) | inr (inl x) ↦ inl (false, x) | inr (inr n) ↦ inr (λ v. neither n v.0 v.1) ]

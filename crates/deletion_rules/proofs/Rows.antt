@@ -1,6 +1,6 @@
 -- Each formula of a node's row is true at the node's states.
 use Rattle.std.proofs.Common.{ℕ, zero, suc, ◌≡◌, ◌⊎◌, ◌<◌, inl, inr, Bool, true, false, Contains, Some, length, refl, subst, sym, arith, ap, ◌∙◌}
-use Rattle.std.proofs.Math.Decide.{ℕ_discrete}
+use Rattle.std.proofs.Math.Decide.{ℕ_discrete, dec_lt}
 use Rattle.pair_structure.specs.Structure.{Structure, HasMove, Reaches}
 use Rattle.pair_structure.specs.declared.side.Side.{Side}
 use Rattle.pair_structure.specs.declared.side.Side.TheVariants.{A, B}
@@ -18,11 +18,13 @@ use Rattle.ctl_form.proofs.Unfold.{greatest, stage_in}
 use Rattle.closure_sets.specs.ClosureParts.{ClosureParts, IsClosureParts, count, after, some_move}
 use Rattle.closure_sets.specs.Cover.{IsTrueAt}
 use Rattle.closure_sets.specs.Full.{Has, IsFull, MeetsPart}
-use Rattle.closure_sets.specs.Label.{part_of, form_of}
+use Rattle.closure_sets.specs.Label.{part_of, form_of, is_wrong}
 use Rattle.closure_sets.proofs.Closures.{form_is, member_of}
 use Rattle.tableau_graph.specs.Graph.{Graph, IsGraph, IsSomeNext}
-use Rattle.deletion_rules.specs.Unravel.{Plan, Position, target, target_at, row_at, IsPending, Pends, IsPassed, MovesOn, StaysWhilePending, Pursues, IsKeptBy, IsStep, IsPlainPart, IsUnravelled, RowsAreTrue}
+use Rattle.deletion_rules.specs.Unravel.{Plan, target, target_at, row_at, IsPending, Pends, IsPassed, MovesOn, StaysWhilePending, Pursues, IsKeptBy, IsStep, IsUnravelled, RowsAreTrue}
+use Rattle.deletion_rules.specs.declared.position.Position.{Position}
 use Rattle.deletion_rules.proofs.Pending.{decided_has, pending_case}
+use Rattle.deletion_rules.proofs.Plain.{IsPlainPart, right_part, past_true}
 use Rattle.deletion_rules.proofs.Descent.{distance, distance_falls, Below, descend}
 
 module _ (c : ClosureParts) (k : IsClosureParts c) (g : Graph) (ok : IsGraph c g) (m : Structure) (plan : Plan) (at : ℕ → Position) (un : IsUnravelled c g m plan at) where
@@ -194,13 +196,19 @@ module _ (c : ClosureParts) (k : IsClosureParts c) (g : Graph) (ok : IsGraph c g
       let small = member i (Either f q) p (λ e. let x : Yes ≡ Either f q = e in cc) in
       subst (λ x. Holds m x s) (sym (form_by i (Either f q) small p)) (elim (meets s lt i (Either f q) p small has) [ inl x ↦ inl (tf s lt x) | inr y ↦ inr (tq s lt y) ])
 
+  plain_true : (i : ℕ) (part : Part) → part_of c i ≡ part → IsPlainPart part → AreTrue i
+  plain_true i part p plain s lt has = elim (dec_lt i (count c)) [
+    | yes small ↦ subst (λ x. Holds m x s) (sym (form_by i part small p)) (right_part m s (g.label (at s).node) (un.labels s lt) (forms_of c.parts) part plain (subst (λ x. is_wrong (g.label (at s).node) x ≡ false) p (ok.literals (at s).node i (un.nodes s lt) small has)))
+    | no big ↦ past_true m c i s (omega (arith, big))
+  ]
+
   below_of : (i : ℕ) (part : Part) → part_of c i ≡ part → i < count c → IsBelow i part
   below_of i part p small = subst (λ x. IsBelow i x) p (k.numbering.rising i small)
 
   member_true : (i : ℕ) → ((j : ℕ) → j < i → AreTrue j) → (part : Part) → part_of c i ≡ part → AreTrue i
-  member_true i ih Yes p s lt has = un.plain s i lt (subst IsPlainPart (sym p) tt) has
-  member_true i ih No p s lt has = un.plain s i lt (subst IsPlainPart (sym p) tt) has
-  member_true i ih (Lit side local is) p s lt has = un.plain s i lt (subst IsPlainPart (sym p) tt) has
+  member_true i ih Yes p s lt has = plain_true i Yes p tt s lt has
+  member_true i ih No p s lt has = plain_true i No p tt s lt has
+  member_true i ih (Lit side local is) p s lt has = plain_true i (Lit side local is) p tt s lt has
   member_true i ih (Both f q) p s lt has = let b = below_of i (Both f q) p (member i (Both f q) p (λ e. let x : Yes ≡ Both f q = e in cc)) in both_true i f q p (ih f b.0) (ih q b.1) s lt has
   member_true i ih (Either f q) p s lt has = let b = below_of i (Either f q) p (member i (Either f q) p (λ e. let x : Yes ≡ Either f q = e in cc)) in either_true i f q p (ih f b.0) (ih q b.1) s lt has
   member_true i ih (Next all side f) p s lt has = next_true i f all side p (ih f (below_of i (Next all side f) p (is_next i f all side p))) s lt has

@@ -1,6 +1,7 @@
 -- Searches below a bound, and the next place in a round.
 use Rattle.std.proofs.Common.{ℕ, zero, suc, ◌≡◌, ◌⊎◌, ◌<◌, ◌≤◌, inl, inr, Bool, true, false, ◌&&◌, refl, subst, sym, arith, ◌∙◌}
 use Rattle.std.proofs.Math.Decide.{dec_lt, dec_le}
+use Rattle.deletion_rules.specs.Picking.{IsNextPlace}
 use Rattle.deletion_rules.specs.Unravel.{IsPassed}
 
 -- some number below n has the property, with none before it; or none has
@@ -15,11 +16,6 @@ search_below X d (suc n) = by (search_below X d n) (d n)
     by (inl u) e = inl (u.0, omega (arith, u.1), u.2, u.3)
     by (inr none) (inl x) = inl (n, omega arith, x, none)
     by (inr none) (inr fails) = inr (λ z lt x. elim (dec_lt z n) [ yes l ↦ none z l x | no g ↦ (let e : z ≡ n = omega (arith, lt, g) in fails (subst X e x)) ])
-
--- a place that comes behind x in the round, so that none with the property is passed
-pub record IsNextPlace (X : ℕ → Type 0) (size x next : ℕ) : Type 0 where
-  pub within : next < size
-  pub passes : (y : ℕ) → y < size → IsPassed x next y → X y → ⊥
 
 abbrev Behind : (ℕ → Type 0) → ℕ → ℕ → Type 0
 Behind X x y = (x < y) × X y

@@ -3,7 +3,9 @@ pub mod Laws
 pub mod Marks
 pub mod Met
 pub mod Outcome
+pub mod Picking
 pub mod Pruned
+pub mod Satisfying
 pub mod Stable
 pub mod Tests
 pub mod Unravel

@@ -6,6 +6,7 @@ use Rattle.closure_sets.specs.Cover.{HoldsWhole, IsTrueAt}
 use Rattle.tableau_graph.specs.Graph.{graph_of}
 use Rattle.tableau_graph.specs.TableauParts.{TableauParts}
 use Rattle.deletion_rules.specs.Deletion.{IsKept, LivesOr}
+use Rattle.deletion_rules.specs.Satisfying.{Satisfies}
 use Rattle.deletion_rules.specs.Marks.{lives_of, ranks_of}
 
 -- the tableau, which AND nodes live, and the marks of each member
@@ -30,3 +31,7 @@ pub record AreRanksOf (r : RankParts) : Type 0 where
 -- no structure over the roles makes all roots true at its state 0
 abbrev pub IsUnsatisfiable : TableauParts → Type 0
 IsUnsatisfiable t = (m : Structure) → IsOver t.a t.b m → HoldsWhole m t.closure 0 ((graph_of t).seed 0) → ⊥
+
+-- some structure over the roles makes all roots true at its state 0
+abbrev pub IsSatisfiable : TableauParts → Type 0
+IsSatisfiable t = (m : Structure) × Satisfies t.a t.b t.closure m

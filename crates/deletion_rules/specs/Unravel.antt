@@ -1,20 +1,15 @@
 -- What makes a structure an unravelling of a set of nodes: each state has a node, and pursues one strong until at a time, in turn.
-use Rattle.std.specs.Prelude.{ℕ, ◌≡◌, ◌⊎◌, ◌<◌, ◌≤◌, Bool, true, false, List, Contains, length, slice_index_or}
+use Rattle.std.specs.Prelude.{ℕ, ◌≡◌, ◌⊎◌, ◌<◌, ◌≤◌, Bool, true, false, List, Contains, Some, length, slice_get, slice_index_or}
 use Rattle.pair_structure.specs.Structure.{Structure, GoesOn, HasMove}
 use Rattle.pair_structure.specs.declared.side.Side.{Side}
-use Rattle.ctl_form.specs.declared.part.Part.{Part}
-use Rattle.ctl_form.specs.declared.part.Part.TheVariants.{Yes, No, Lit, Both, Either, Next, Until}
+use Rattle.ctl_form.specs.declared.part.Part.TheVariants.{Next, Until}
 use Rattle.closure_sets.specs.ClosureParts.{ClosureParts, IsClosureParts, count, after}
 use Rattle.closure_sets.specs.Cover.{IsTrueAt}
 use Rattle.closure_sets.specs.Full.{Has}
 use Rattle.closure_sets.specs.Label.{part_of}
 use Rattle.closure_sets.specs.Row.{Members}
 use Rattle.tableau_graph.specs.Graph.{Graph, IsGraph}
-
--- a node, and the place of the strong until that is pursued there among the targets
-pub record Position : Type 0 where
-  pub node : ℕ
-  pub place : ℕ
+use Rattle.deletion_rules.specs.declared.position.Position.{Position}
 
 -- what an unravelling goes by: the strong untils in the order of their turns, the member EXs u through which an E target u goes on, and the rank of an until at a node
 pub record Plan : Type 0 where
@@ -69,27 +64,17 @@ pub record IsStep (c : ClosureParts) (g : Graph) (plan : Plan) (p : Position) (i
   pub kept : Pends c g plan false p → IsKeptBy g plan p i → Pursues c g plan p q
   pub others : Pends c g plan false p → (IsKeptBy g plan p i → ⊥) → MovesOn c g plan p q
 
--- a constant or a literal
-abbrev pub IsPlainPart : Part → Type 0
-IsPlainPart Yes = Unit {0}
-IsPlainPart No = Unit {0}
-IsPlainPart (Lit side local is) = Unit {0}
-IsPlainPart (Both f g) = ⊥
-IsPlainPart (Either f g) = ⊥
-IsPlainPart (Next all side f) = ⊥
-IsPlainPart (Until all weak f g) = ⊥
-
 -- what a plan has to be for a closure: all strong untils take turns
 abbrev pub HasTargets : ClosureParts → Plan → Type 0
 HasTargets c plan = (u f second : ℕ) (all : Bool) → u < count c → part_of c u ≡ Until all false f second → (y : ℕ) × (y < length plan.targets) × (target_at plan y ≡ u)
 
--- each state has a position; each EXs h of its row has its move, and each move is one of these
+-- each state has a position, and its node's label; each EXs h of its row has its move, and each move is one of these
 pub record IsUnravelled (c : ClosureParts) (g : Graph) (m : Structure) (plan : Plan) (at : ℕ → Position) : Type 0 where
   pub goes_on : GoesOn m
   pub targets : HasTargets c plan
   pub nodes : (s : ℕ) → s < length m.states → (at s).node < g.ands
   pub placed : (s : ℕ) → s < length m.states → 0 < length plan.targets → (at s).place < length plan.targets
-  pub plain : (s i : ℕ) → s < length m.states → IsPlainPart (part_of c i) → Has (row_at g (at s)) i → IsTrueAt m c s i
+  pub labels : (s : ℕ) → s < length m.states → slice_get m.states s ≡ Some (g.label (at s).node)
   pub steps : (s : ℕ) → s < length m.states → (side : Side) (t : ℕ) → HasMove m side s t → (i : ℕ) × (h : ℕ) × (part_of c i ≡ Next false side h) × Has (row_at g (at s)) i × IsStep c g plan (at s) i (at t)
   pub goes : (s : ℕ) → s < length m.states → (i h : ℕ) (side : Side) → part_of c i ≡ Next false side h → Has (row_at g (at s)) i → (t : ℕ) × HasMove m side s t × IsStep c g plan (at s) i (at t)
   pub keep : (s : ℕ) → s < length m.states → Pends c g plan false (at s) → (side : Side) × (plan.keep (at s) ≡ after c side (target plan (at s))) × Has (row_at g (at s)) (plan.keep (at s))

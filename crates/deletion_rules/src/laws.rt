@@ -1,7 +1,10 @@
 //! Laws of deletion and unravelling, stated where the crates above can cite them; their bodies do nothing.
 
 ghost use Rattle.deletion_rules.specs.Laws.{DeadIsUnsatisfiable, MetAreSupported, RanksAreBounded, RemovalKeepsMet, SupportRises};
+ghost use Rattle.deletion_rules.specs.Satisfying.{KeptIsSatisfiable, UnravelledSatisfies};
 ghost use Rattle.deletion_rules.specs.Unravel.{RowsAreTrue};
+
+use tableau_graph::tableau_is_graph;
 
 /// In a structure that is unravelled from nodes, each formula of a node's row is true at the node's states.
 pub fn rows_are_true()
@@ -32,3 +35,17 @@ pub fn support_rises()
 pub fn dead_is_unsatisfiable()
     ensures { DeadIsUnsatisfiable }
 {}
+
+/// A structure that is unravelled from a tableau satisfies the conjuncts, if its state 0 is a child of the root.
+pub fn unravelled_satisfies()
+    ensures { UnravelledSatisfies }
+{
+    tableau_is_graph();
+}
+
+/// From nodes of which the rules delete none, with a child of the root among them, there is a structure that satisfies the conjuncts.
+pub fn kept_is_satisfiable()
+    ensures { KeptIsSatisfiable }
+{
+    tableau_is_graph();
+}

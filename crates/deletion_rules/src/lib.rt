@@ -7,6 +7,7 @@ mod goal;
 mod lasting;
 mod laws;
 mod marking;
+mod position;
 mod pruning;
 mod ranks;
 mod table;
@@ -14,8 +15,9 @@ mod table;
 mod tests;
 
 pub use laws::{
-    dead_is_unsatisfiable, met_are_supported, ranks_are_bounded, removal_keeps_met, rows_are_true,
-    support_rises,
+    dead_is_unsatisfiable, kept_is_satisfiable, met_are_supported, ranks_are_bounded,
+    removal_keeps_met, rows_are_true, support_rises, unravelled_satisfies,
 };
+pub use position::Position;
 pub use pruning::{Pruned, prune};
 pub use ranks::Ranks;

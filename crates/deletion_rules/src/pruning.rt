@@ -2,9 +2,9 @@ ghost use Rattle.std.specs.Prelude.{◌≡◌, ◌<◌, length, IfOk};
 ghost use Rattle.deletion_rules.specs.Stable.{IsLasting};
 ghost use Rattle.deletion_rules.specs.Outcome.{IsPruned};
 
-use crate::Ranks;
 use crate::deleting::lives_or;
 use crate::lasting::{Lasting, what_lasts};
+use crate::{Ranks, kept_is_satisfiable};
 use pair_structure::Memory;
 use std::alloc::Global;
 use tableau_graph::{Tableau, tableau_is_graph, tableau_root_covers};
@@ -35,6 +35,7 @@ fn outcome_of(t: Tableau, left: Lasting) -> Pruned
     let _nodes = t.ands();
     tableau_is_graph();
     tableau_root_covers();
+    kept_is_satisfiable();
     if lives_or(&t, &left.lives, 0) {
         return Pruned::Alive(Ranks {
             tableau: t,
