@@ -11,3 +11,4 @@ pub mod AllMoves
 pub mod Meaning
 pub mod Roles
 pub mod Solved
+pub mod Taken

@@ -10,12 +10,9 @@ use Rattle.ctl_form.specs.Kind.{role_at, Satisfies, SatisfiesKind, Solves}
 use Rattle.ctl_text.specs.Value.{kind_at}
 use Rattle.skeleton_tool.specs.Answer.{IsFirstUnsatisfiable}
 use Rattle.skeleton_tool.specs.Proposition.{is_plain}
-use Rattle.skeleton_tool.specs.SolutionText.{solved_kind_text, solved_kinds_text}
+use Rattle.solution_text.specs.SolutionText.{AreOver}
 use Rattle.skeleton_tool.proofs.Lists.{All-unmap}
-use Rattle.skeleton_tool.specs.Solving.{IsForEngine, AddsSolved, AddsOne}
-
-abbrev text_in : List RoleParts → PairSpec → Structure → List ℕ
-text_in roles k m = solved_kind_text k.name (role_at roles k.role_a) (role_at roles k.role_b) m
+use Rattle.skeleton_tool.specs.Solving.{IsForEngine}
 
 solves_more : (roles : List RoleParts) (ks : List PairSpec) (ms : List Structure) (k : PairSpec) (m : Structure) → Solves roles ks ms → SatisfiesKind roles k m → Solves roles (ks ++ k ∷ []) (ms ++ m ∷ [])
 solves_more roles [] [] k m s sat = (sat, tt)
@@ -23,23 +20,17 @@ solves_more roles [] (n ∷ ms) k m s sat = absurd s
 solves_more roles (j ∷ ks) [] k m s sat = absurd s
 solves_more roles (j ∷ ks) (n ∷ ms) k m s sat = (s.0, solves_more roles ks ms k m s.1 sat)
 
-text_more : (roles : List RoleParts) (ks : List PairSpec) (ms : List Structure) (k : PairSpec) (m : Structure) → Solves roles ks ms → solved_kinds_text roles (ks ++ k ∷ []) (ms ++ m ∷ []) ≡ solved_kinds_text roles ks ms ++ text_in roles k m
-text_more roles [] [] k m s = append-nil (text_in roles k m)
-text_more roles [] (n ∷ ms) k m s = absurd s
-text_more roles (j ∷ ks) [] k m s = absurd s
-text_more roles (j ∷ ks) (n ∷ ms) k m s = ap (λ t. text_in roles j n ++ t) (text_more roles ks ms k m s.1) ∙ sym (append_assoc (text_in roles j n) (solved_kinds_text roles ks ms) (text_in roles k m))
-
-solved_more : (roles : List RoleParts) (ks : List PairSpec) (k : PairSpec) (old mid new : List ℕ) → AddsSolved roles ks old mid → AddsOne roles k mid new → AddsSolved roles (ks ++ k ∷ []) old new
-solved_more roles ks k old mid new (ms, solves, text) (m, sat, more) = (
-  ms ++ m ∷ [],
-  solves_more roles ks ms k m solves sat,
-  more ∙ ap (λ t. t ++ text_in roles k m) text ∙ append_assoc old (solved_kinds_text roles ks ms) (text_in roles k m) ∙ ap (λ t. old ++ t) (sym (text_more roles ks ms k m solves)),
-)
-
-pub solved_step : (roles : List RoleParts) (kinds : List PairSpec) (i : ℕ) (kind : PairSpec) (old mid new : List ℕ) → i < length kinds → kind ≡ get_or kinds i kind → AddsSolved roles (take i kinds) old mid → AddsOne roles kind mid new → AddsSolved roles (take (i + 1) kinds) old new
-solved_step roles kinds i kind old mid new lt is solved one =
+pub solved_step : (roles : List RoleParts) (kinds : List PairSpec) (i : ℕ) (kind : PairSpec) (ms : List Structure) (m : Structure) → i < length kinds → kind ≡ get_or kinds i kind → Solves roles (take i kinds) ms → SatisfiesKind roles kind m → Solves roles (take (i + 1) kinds) (ms ++ m ∷ [])
+solved_step roles kinds i kind ms m lt is solved one =
     let grown : take i kinds ++ kind ∷ [] ≡ take (i + 1) kinds = ap (λ k. take i kinds ++ k ∷ []) is ∙ sym (take_more kinds i kind lt) in
-    subst (λ ks. AddsSolved roles ks old new) grown (solved_more roles (take i kinds) kind old mid new solved one)
+    subst (λ ks. Solves roles ks (ms ++ m ∷ [])) grown (solves_more roles (take i kinds) ms kind m solved one)
+
+-- what solves has structures over the roles of their kinds
+pub solved_over : (roles : List RoleParts) (kinds : List PairSpec) (ms : List Structure) → Solves roles kinds ms → AreOver roles kinds ms
+solved_over roles [] [] s = tt
+solved_over roles [] (m ∷ ms) s = absurd s
+solved_over roles (k ∷ ks) [] s = absurd s
+solved_over roles (k ∷ ks) (m ∷ ms) s = (s.0.over, solved_over roles ks ms s.1)
 
 -- each of the solved kinds has a structure
 has_structure : (roles : List RoleParts) (ks : List PairSpec) (ms : List Structure) (i : ℕ) (d : PairSpec) → Solves roles ks ms → i < length ks → (m : Structure) × SatisfiesKind roles (get_or ks i d) m
@@ -48,8 +39,8 @@ has_structure roles (k ∷ ks) [] i d s lt = absurd s
 has_structure roles (k ∷ ks) (m ∷ ms) zero d s lt = (m, s.0)
 has_structure roles (k ∷ ks) (m ∷ ms) (suc i) d s lt = has_structure roles ks ms i d s.1 (omega (arith, lt))
 
-pub first_unsatisfiable : (roles : List RoleParts) (kinds : List PairSpec) (i : ℕ) (kind : PairSpec) (old mid : List ℕ) → i < length kinds → kind ≡ get_or kinds i kind → AddsSolved roles (take i kinds) old mid → ((m : Structure) → SatisfiesKind roles kind m → ⊥) → IsFirstUnsatisfiable roles kinds i
-first_unsatisfiable roles kinds i kind old mid lt is (ms, solves, text) none = record {
+pub first_unsatisfiable : (roles : List RoleParts) (kinds : List PairSpec) (i : ℕ) (kind : PairSpec) (ms : List Structure) → i < length kinds → kind ≡ get_or kinds i kind → Solves roles (take i kinds) ms → ((m : Structure) → SatisfiesKind roles kind m → ⊥) → IsFirstUnsatisfiable roles kinds i
+first_unsatisfiable roles kinds i kind ms lt is solves none = record {
   within = lt;
   none = λ m sat. none m (subst (λ k. SatisfiesKind roles k m) (sym (is ∙ get_or_default kinds i kind _ lt)) sat);
   before = λ j below. earlier j below;

@@ -1,7 +1,7 @@
 -- What a call answers: a status, the text that belongs to it, and when it may come.
-use Rattle.std.specs.Prelude.{ℕ, ◌≡◌, ◌<◌, ◌≤◌, ◌⊎◌, Option, Some, None, IfSome, List, [], ◌++◌, codes, length}
+use Rattle.std.specs.Prelude.{ℕ, ◌≡◌, ◌<◌, ◌⊎◌, Option, Some, None, List, [], ◌++◌, codes, length}
 use Rattle.edge_io.specs.Counts.{Rose}
-use Rattle.edge_io.specs.Told.{file_named, HasLonger, Appends, AppendsPrefix}
+use Rattle.edge_io.specs.Told.{Appends, AppendsPrefix}
 use Rattle.pair_structure.specs.Role.{RoleParts}
 use Rattle.pair_structure.specs.Structure.{Structure}
 use Rattle.ctl_form.specs.declared.pair_spec.PairSpec.{PairSpec}
@@ -9,42 +9,63 @@ use Rattle.ctl_form.specs.Kind.{SatisfiesKind, Solves}
 use Rattle.ctl_text.specs.declared.cause.TextCause.{TextCause}
 use Rattle.ctl_text.specs.Value.{SpecParts, kind_at}
 use Rattle.ctl_text.specs.Text.{IsSpecText, IsRefused}
+use Rattle.solution_text.specs.Failing.{IsFirstFailing}
+use Rattle.solution_text.specs.Text.{IsSolutionText, IsRefused as IsSolutionRefused}
 use Rattle.skeleton_tool.specs.declared.status.Status.{Status}
-use Rattle.skeleton_tool.specs.declared.status.Status.TheVariants.{Done, Usage, Refused, Unsatisfiable, ReadFault, WriteFault, OutOfMemory}
-use Rattle.skeleton_tool.specs.Command.{synth, command_of, usage_text, spec_limit}
+use Rattle.skeleton_tool.specs.declared.status.Status.TheVariants.{Done, Usage, Refused, Unsatisfiable, Fails, ReadFault, WriteFault, OutOfMemory}
+use Rattle.skeleton_tool.specs.Command.{Command, synth, prove, command_of, usage_text, spec_limit, solution_limit}
 use Rattle.skeleton_tool.specs.Status.{code_of}
 use Rattle.skeleton_tool.specs.Refusal.{ArePlain, refused_text, only_always_text}
-use Rattle.skeleton_tool.specs.SolutionText.{solution_text}
+use Rattle.skeleton_tool.specs.Taking.{Files, ShelfSeen, IsGiven, IsUntaken}
 
--- what is known of the shelf before and after the call: its files, where they are told, and its two counts
-pub record ShelfSeen : Type 0 where
-  pub files : Option (List (List ℕ × List ℕ))
-  pub faults_before : ℕ
-  pub faults_after : ℕ
-  pub longs_before : ℕ
-  pub longs_after : ℕ
-
--- the file has these bytes, where the files are told, and they are within its limit
-pub record IsGiven (shelf : ShelfSeen) (file : List ℕ) (max : ℕ) (bytes : List ℕ) : Type 0 where
-  pub told : IfSome shelf.files (λ all. file_named all file ≡ Some bytes)
-  pub within : length bytes ≤ max
-
--- the file was found to be longer than its limit; where the files are told, it is
-pub record IsTooLong (shelf : ShelfSeen) (file : List ℕ) (max : ℕ) : Type 0 where
-  pub counted : Rose shelf.longs_before shelf.longs_after
-  pub told : IfSome shelf.files (λ all. HasLonger all file max)
-
--- the bytes are a text of this value and of no other
-pub record IsTextOf (bytes : List ℕ) (v : SpecParts) : Type 0 where
+-- a specification is read of the file: its bytes are a text of this value and of no other
+pub record IsSpecRead (files : Files) (file : List ℕ) (v : SpecParts) : Type 0 where
+  pub bytes : List ℕ
+  pub given : IsGiven files file spec_limit bytes
   pub text : IsSpecText bytes v
   pub only : (other : SpecParts) → IsSpecText bytes other → v ≡ other
+
+-- the file is a text of no specification, and its first bad line is named with its lowest cause
+pub record IsBadSpec (files : Files) (file : List ℕ) (text : List ℕ) : Type 0 where
+  pub bytes : List ℕ
+  pub given : IsGiven files file spec_limit bytes
+  pub no_text : (v : SpecParts) → IsSpecText bytes v → ⊥
+  pub line : ℕ
+  pub cause : TextCause
+  pub refused : IsRefused bytes line cause
+  pub text_is : text ≡ refused_text (codes "spec") line cause
+
+-- no specification is read of the file
+abbrev pub NoSpec : ShelfSeen → List ℕ → Status → List ℕ → Type 0
+NoSpec shelf file status text = IsUntaken shelf (codes "spec") file spec_limit status text ⊎ ((status ≡ Refused) × IsBadSpec shelf.files file text)
+
+-- a solution of the specification is read of the file: its bytes are a text of these structures and of no others
+pub record IsSolutionRead (files : Files) (v : SpecParts) (file : List ℕ) (structures : List Structure) : Type 0 where
+  pub bytes : List ℕ
+  pub given : IsGiven files file solution_limit bytes
+  pub text : IsSolutionText v.roles v.kinds bytes structures
+  pub only : (others : List Structure) → IsSolutionText v.roles v.kinds bytes others → structures ≡ others
+
+-- the file is a text of no solution, and its first bad line is named with its lowest cause
+pub record IsBadSolution (files : Files) (v : SpecParts) (file : List ℕ) (text : List ℕ) : Type 0 where
+  pub bytes : List ℕ
+  pub given : IsGiven files file solution_limit bytes
+  pub no_text : (structures : List Structure) → IsSolutionText v.roles v.kinds bytes structures → ⊥
+  pub line : ℕ
+  pub cause : TextCause
+  pub refused : IsSolutionRefused v.roles v.kinds bytes line cause
+  pub text_is : text ≡ refused_text (codes "solution") line cause
+
+-- no solution is read of the file
+abbrev pub NoSolution : ShelfSeen → SpecParts → List ℕ → Status → List ℕ → Type 0
+NoSolution shelf v file status text = IsUntaken shelf (codes "solution") file solution_limit status text ⊎ ((status ≡ Refused) × IsBadSolution shelf.files v file text)
 
 -- the text of structures that solve these kinds
 pub record IsSolved (roles : List RoleParts) (kinds : List PairSpec) (text : List ℕ) : Type 0 where
   pub plain : ArePlain kinds
   pub structures : List Structure
   pub solves : Solves roles kinds structures
-  pub text_is : text ≡ solution_text roles kinds structures
+  pub is_text : IsSolutionText roles kinds text structures
 
 -- no structure satisfies this kind, and each kind before it has one
 pub record IsFirstUnsatisfiable (roles : List RoleParts) (kinds : List PairSpec) (kind : ℕ) : Type 0 where
@@ -71,39 +92,33 @@ AnswersKinds roles kinds Unsatisfiable text = IsUnsolvable roles kinds text
 AnswersKinds roles kinds Refused text = IsBeyond kinds text
 AnswersKinds roles kinds status text = ⊥
 
--- the bytes are a text of some roles and kinds, and of no others; the answer is one to these
-pub record AnswersText (bytes : List ℕ) (status : Status) (text : List ℕ) : Type 0 where
-  pub value : SpecParts
-  pub is_text : IsTextOf bytes value
-  pub answers : AnswersKinds value.roles value.kinds status text
-
--- the first bad line of bytes that are a text of nothing, and its lowest cause
-pub record AnswersFault (bytes text : List ℕ) : Type 0 where
-  pub no_text : (v : SpecParts) → IsSpecText bytes v → ⊥
-  pub line : ℕ
-  pub cause : TextCause
-  pub refused : IsRefused bytes line cause
-  pub text_is : text ≡ refused_text line cause
-
--- the status and its text are an answer to a specification of these bytes
-abbrev pub AnswersSpec : List ℕ → Status → List ℕ → Type 0
-AnswersSpec bytes Refused text = AnswersFault bytes text ⊎ AnswersText bytes Refused text
-AnswersSpec bytes status text = AnswersText bytes status text
-
--- the file was read, and the answer is one to its bytes
-abbrev pub AnswersRead : ShelfSeen → List ℕ → Status → List ℕ → Type 0
-AnswersRead shelf file status text = (bytes : List ℕ) × IsGiven shelf file spec_limit bytes × AnswersSpec bytes status text
-
 -- the status and its text are an answer to `synth` of this file
-abbrev pub AnswersFile : ShelfSeen → List ℕ → Status → List ℕ → Type 0
-AnswersFile shelf file ReadFault text = Rose shelf.faults_before shelf.faults_after × (text ≡ codes "read fault spec\n")
-AnswersFile shelf file Refused text = (IsTooLong shelf file spec_limit × (text ≡ codes "refused spec 0 TooLong\n")) ⊎ AnswersRead shelf file Refused text
-AnswersFile shelf file status text = AnswersRead shelf file status text
+abbrev pub AnswersSynth : ShelfSeen → List ℕ → Status → List ℕ → Type 0
+AnswersSynth shelf file status text = NoSpec shelf file status text ⊎ ((v : SpecParts) × IsSpecRead shelf.files file v × AnswersKinds v.roles v.kinds status text)
+
+-- the structures solve, or the first kind that fails is named
+abbrev pub Proves : SpecParts → List Structure → Status → List ℕ → Type 0
+Proves v structures Done text = Solves v.roles v.kinds structures × (text ≡ codes "solves\n")
+Proves v structures Fails text = (kind : ℕ) × IsFirstFailing v.roles v.kinds structures kind × (text ≡ codes "fails " ++ (kind_at v.kinds kind).name ++ codes "\n")
+Proves v structures status text = ⊥
+
+-- the status and its text are an answer to this file as a solution of the specification
+abbrev pub AnswersSolution : ShelfSeen → SpecParts → List ℕ → Status → List ℕ → Type 0
+AnswersSolution shelf v file status text = NoSolution shelf v file status text ⊎ ((structures : List Structure) × IsSolutionRead shelf.files v file structures × Proves v structures status text)
+
+-- the status and its text are an answer to `prove` of these files: the specification comes first, whole
+abbrev pub AnswersProve : ShelfSeen → List ℕ → List ℕ → Status → List ℕ → Type 0
+AnswersProve shelf spec sol status text = NoSpec shelf spec status text ⊎ ((v : SpecParts) × IsSpecRead shelf.files spec v × AnswersSolution shelf v sol status text)
+
+-- the status and its text are an answer to this command
+abbrev pub AnswersCommand : ShelfSeen → Command → Status → List ℕ → Type 0
+AnswersCommand shelf (synth spec) status text = AnswersSynth shelf spec status text
+AnswersCommand shelf (prove spec sol) status text = AnswersProve shelf spec sol status text
 
 -- the status and its text are an answer to these words, over such a shelf
 abbrev pub IsAnswer : List (List ℕ) → ShelfSeen → Status → List ℕ → Type 0
 IsAnswer words shelf Usage text = (command_of words ≡ None) × (text ≡ usage_text)
-IsAnswer words shelf status text = (file : List ℕ) × (command_of words ≡ Some (synth file)) × AnswersFile shelf file status text
+IsAnswer words shelf status text = (command : Command) × (command_of words ≡ Some command) × AnswersCommand shelf command status text
 
 -- what is known of the sink before and after the call: its bytes, where they are told, and its count
 pub record SinkSeen : Type 0 where

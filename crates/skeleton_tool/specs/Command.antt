@@ -3,8 +3,10 @@ use Rattle.std.specs.Prelude.{ℕ, ◌==◌, ◌&&◌, not, Bool, false, Option,
 use Rattle.std.specs.declared.alloc.Global.{Global}
 use Rattle.std.specs.Str.{bytes_eq}
 
+-- each with its files: a specification, and for `prove` a solution
 pub data Command : Type 0 where
   synth : List ℕ → Command
+  prove : List ℕ → List ℕ → Command
 
 -- 45 is '-'
 abbrev pub begins_with_dash : List ℕ → Bool
@@ -14,19 +16,25 @@ begins_with_dash (first ∷ rest) = first == 45
 -- the name of the command, and as many words as it takes, of which none begins with a dash
 abbrev pub command_of : List (List ℕ) → Option Command
 command_of (name ∷ spec ∷ []) = if bytes_eq name (codes "synth") && not (begins_with_dash spec) then Some (synth spec) else None
+command_of (name ∷ spec ∷ sol ∷ []) = if bytes_eq name (codes "prove") && not (begins_with_dash spec) && not (begins_with_dash sol) then Some (prove spec sol) else None
 command_of words = None
 
 abbrev pub words_of : List (String Global) → List (List ℕ)
 words_of = map string_bytes
 
 abbrev pub usage_text : List ℕ
-usage_text = codes "usage:\n  synth SPEC\n"
+usage_text = codes "usage:\n  synth SPEC\n  prove SPEC SOL\n"
 
 -- the most bytes that a specification may have
 abbrev pub spec_limit : ℕ
 spec_limit = 1048576
 
+-- the most bytes that a solution may have
+abbrev pub solution_limit : ℕ
+solution_limit = 67108864
+
 -- the files that a command asks for, each with the most bytes that it may have
 abbrev pub asked_files : Option Command → List (List ℕ × ℕ)
 asked_files (Some (synth spec)) = (spec, spec_limit) ∷ []
+asked_files (Some (prove spec sol)) = (spec, spec_limit) ∷ (sol, solution_limit) ∷ []
 asked_files None = []

@@ -3,6 +3,7 @@ pub mod Command
 pub mod Labels
 pub mod Proposition
 pub mod Refusal
-pub mod SolutionText
 pub mod Status
 pub mod Solving
+pub mod Taking
+pub mod View

@@ -1,4 +1,4 @@
--- The printed text of a specification that is refused, and of one that asks for more than AG of propositions.
+-- The printed text of a file that is refused, and of a specification that asks for more than AG of propositions.
 use Rattle.std.specs.Prelude.{ℕ, ◌≡◌, ◌++◌, true, List, All, codes, decimal}
 use Rattle.ctl_form.specs.declared.pair_spec.PairSpec.{PairSpec}
 use Rattle.ctl_text.specs.declared.cause.TextCause.{TextCause}
@@ -25,9 +25,9 @@ cause_word (NotAPair fault) = codes "NotAPair"
 cause_word NotRising = codes "NotRising"
 cause_word Disagree = codes "Disagree"
 
--- the line, counted from 1, and the cause
-abbrev pub refused_text : ℕ → TextCause → List ℕ
-refused_text line cause = codes "refused spec " ++ decimal line ++ codes " " ++ cause_word cause ++ codes "\n"
+-- the file's word, the line, counted from 1, and the cause
+abbrev pub refused_text : List ℕ → ℕ → TextCause → List ℕ
+refused_text word line cause = codes "refused " ++ word ++ codes " " ++ decimal line ++ codes " " ++ cause_word cause ++ codes "\n"
 
 abbrev pub only_always_text : List ℕ
 only_always_text = codes "refused spec 0 OnlyAlways\n"

@@ -1,15 +1,28 @@
 ghost use Rattle.std.specs.Prelude.{◌≡◌};
-ghost use Rattle.std.specs.Option.{option_copied, option_map};
-ghost use Rattle.skeleton_tool.specs.Command.{command_of, synth, words_of, begins_with_dash};
+ghost use Rattle.std.specs.Option.{option_map};
+ghost use Rattle.skeleton_tool.specs.Command.{command_of, words_of, begins_with_dash};
+ghost use Rattle.skeleton_tool.specs.View.{command_value};
 
-/// The specification's file of the words `synth SPEC`, if they are this command: one name, and as many words as it takes, of which none
-/// begins with a dash.
-pub(crate) fn synth_file(words: &[String]) -> Option<&str>
-    ensures { option_map synth (option_copied result) ≡ command_of (words_of words.now) }
+/// A command, with the words of its files.
+#[derive(Clone, Copy, Debug)]
+pub(crate) enum Command<'a> {
+    Synth(&'a str),
+    Prove(&'a str, &'a str),
+}
+
+/// The command that the words are, if they are one: its name, and as many words as it takes, of which none begins with a dash.
+pub(crate) fn command_in(words: &[String]) -> Option<Command<'_>>
+    ensures { option_map command_value result ≡ command_of (words_of words.now) }
 {
     match words {
-        [name, file] if name.as_str() == "synth" && !begins_with_dash(file.as_str()) => {
-            Some(file.as_str())
+        [name, spec] if name.as_str() == "synth" && !begins_with_dash(spec.as_str()) => {
+            Some(Command::Synth(spec.as_str()))
+        }
+        [name, spec, sol]
+            if name.as_str() == "prove"
+                && !begins_with_dash(spec.as_str())
+                && !begins_with_dash(sol.as_str()) => {
+            Some(Command::Prove(spec.as_str(), sol.as_str()))
         }
         _ => None,
     }

@@ -6,10 +6,13 @@ mod call;
 mod command;
 mod engine;
 mod plain;
+mod proving;
 mod refusal;
-mod solution_text;
 mod solving;
 mod status;
+mod stop;
+mod synthesis;
+mod taking;
 
 pub use call::plan;
 

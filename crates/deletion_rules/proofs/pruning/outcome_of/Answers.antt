@@ -1,5 +1,5 @@
 use Rattle.std.proofs.Common.{◌≡◌, Bool, true, false, List, refl, subst, sym, ap, ◌∙◌}
-use Rattle.deletion_rules.specs.Marks.{lives_of, ranks_of}
+use Rattle.deletion_rules.specs.Marks.{lists_of, lives_of, ranks_of}
 use Rattle.deletion_rules.specs.Tests.{lives_or}
 use Rattle.deletion_rules.proofs.Kept.{met_dead}
 use Rattle.deletion_rules.proofs.Seen.{lives_or_in, lives_or_out}
@@ -14,7 +14,7 @@ pub returns-then-lives_or : goal.returns-then-lives_or
 returns-then-lives_or c =
     let root : lives_or c.args.t c.args.left.lives.items 0 ≡ true = ap (λ (l : List Bool). lives_or c.args.t l 0) (sym c.deref.ensures.value) ∙ sym c.lives_or.ensures ∙ c.if-lives_or.true in
     let alive = lives_or_out c.args.t c.ands-nodes.ensures.tableau c.args.left.lives.items 0 root in
-    (refl, record { long = c.requires.long; kept = c.requires.kept; root = alive }, c.kept_is_satisfiable.ensures c.args.t c.ands-nodes.ensures.tableau (lives_of c.args.left.lives.items) (ranks_of c.args.left.table.items) c.requires.kept alive)
+    (refl, record { long = c.requires.long; kept = c.requires.kept; root = alive }, c.kept_is_satisfiable.ensures c.args.t c.ands-nodes.ensures.tableau (lives_of c.args.left.lives.items) (ranks_of (lists_of c.args.left.table.items)) c.requires.kept alive)
 
 pub returns : goal.returns
 returns c =

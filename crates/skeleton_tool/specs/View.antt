@@ -1,0 +1,9 @@
+-- A command, without where its words lie in memory.
+use Rattle.std.specs.Prelude.{}
+use Rattle.skeleton_tool.specs.declared.command.Command.{Command}
+use Rattle.skeleton_tool.specs.declared.command.Command.TheVariants.{Synth, Prove}
+use Rattle.skeleton_tool.specs.Command.{Command as CommandValue, synth, prove}
+
+abbrev pub command_value : Command → CommandValue
+command_value (Synth spec) = synth spec.now
+command_value (Prove spec sol) = prove spec.now sol.now

@@ -1,0 +1,89 @@
+ghost use Rattle.std.specs.Prelude.{◌≡◌, ◌<◌, ◌++◌, [], IfOk, IfErr, OnOk, length, codes};
+ghost use Rattle.skeleton_tool.specs.Answer.{AnswersSynth, AnswersKinds};
+ghost use Rattle.skeleton_tool.specs.Command.{spec_limit};
+ghost use Rattle.skeleton_tool.specs.Refusal.{ArePlain};
+ghost use Rattle.skeleton_tool.specs.Taking.{StopsAs};
+
+use crate::plain::are_plain;
+use crate::solving::solve_all;
+use crate::status::Status;
+use crate::stop::Stop;
+use crate::taking::take_spec;
+use ctl_form::PairSpec;
+use ctl_text::Spec;
+use edge_io::Shelf;
+use pair_structure::Memory;
+use solution_text::{Solution, write_solution};
+use std::alloc::Global;
+
+/// Writes a solution of the specification of this file, or the first kind that has none.
+pub(crate) fn synth<S: Shelf>(
+    alloc: Global,
+    file: &str,
+    shelf: &mut S,
+    text: &mut Vec<u8>,
+) -> Result<Status, Stop>
+    requires allowed { S.may_ask shelf.old file.now spec_limit }
+    requires empty { text.old.items ≡ [] }
+    ensures answer { IfOk result (λ status. AnswersSynth (record {
+      files = S.files shelf.old;
+      faults_before = S.faults shelf.old;
+      faults_after = S.faults shelf.new;
+      longs_before = S.longs shelf.old;
+      longs_after = S.longs shelf.new;
+    }) file.now status text.new.items) }
+    ensures some { IfOk result (λ status. 0 < length text.new.items) }
+    ensures stopped { IfErr result (StopsAs (AnswersSynth (record {
+      files = S.files shelf.old;
+      faults_before = S.faults shelf.old;
+      faults_after = S.faults shelf.new;
+      longs_before = S.longs shelf.old;
+      longs_after = S.longs shelf.new;
+    }) file.now) text.new.items) }
+{
+    let spec = take_spec(alloc, file, shelf, text)?;
+    let status = answer_kinds(alloc, &spec, text)?;
+    Ok(status)
+}
+
+fn answer_kinds(alloc: Global, spec: &Spec, text: &mut Vec<u8>) -> Result<Status, Memory>
+    requires { text.old.items ≡ [] }
+    ensures answer { IfOk result (λ status. AnswersKinds spec.now.roles spec.now.kinds status text.new.items) }
+    ensures some { IfOk result (λ status. 0 < length text.new.items) }
+{
+    if !are_plain(spec.kinds()) {
+        text.extend_from_slice(b"refused spec 0 OnlyAlways\n")?;
+        return Ok(Status::Refused);
+    }
+    let status = answer_plain(alloc, spec, text)?;
+    Ok(status)
+}
+
+fn answer_plain(alloc: Global, spec: &Spec, text: &mut Vec<u8>) -> Result<Status, Memory>
+    requires plain { ArePlain spec.now.kinds }
+    requires empty { text.old.items ≡ [] }
+    ensures answer { IfOk result (λ status. AnswersKinds spec.now.roles spec.now.kinds status text.new.items) }
+    ensures some { IfOk result (λ status. 0 < length text.new.items) }
+{
+    let mut structures = Vec::new(alloc);
+    match solve_all(alloc, spec.network().roles(), spec.kinds(), &mut structures)? {
+        None => {
+            let sol = Solution::make(spec, structures);
+            write_solution(alloc, spec, &sol, text)?;
+            Ok(Status::Done)
+        }
+        Some(first) => {
+            write_unsatisfiable(&spec.kinds()[first], text)?;
+            Ok(Status::Unsatisfiable)
+        }
+    }
+}
+
+fn write_unsatisfiable(kind: &PairSpec, text: &mut Vec<u8>) -> Result<(), Memory>
+    ensures { OnOk result (text.new.items ≡ text.old.items ++ codes "unsatisfiable " ++ kind.now.name ++ codes "\n") }
+{
+    text.extend_from_slice(b"unsatisfiable ")?;
+    text.extend_from_slice(kind.name.as_str().as_bytes())?;
+    text.extend_from_slice(b"\n")?;
+    Ok(())
+}
