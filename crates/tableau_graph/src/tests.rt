@@ -87,26 +87,40 @@ fn successors_text(alloc: Global, t: &Tableau) -> Result<String, Fail> {
     Ok(text)
 }
 
-#[test]
-fn builds_a_small_graph(rt: HostRuntime) -> Result<(), Fail> {
-    let alloc = rt.alloc();
+fn small_graph(alloc: Global) -> Result<Tableau, Fail> {
     let lamp = role(alloc, "off on", &[arc(0, 1, false), arc(1, 0, false)])?;
     let mut conjuncts = Vec::new(alloc);
     conjuncts.push(next(alloc, false, Formula::Yes)?)?;
     conjuncts.push(next(alloc, true, at(Side::B, 0))?)?;
     let c = Closure::of(alloc, &Normal::of(alloc, &conjuncts)?)?;
-    let t = Tableau::build(alloc, &c, &lamp, &lamp)?;
+    Ok(Tableau::build(alloc, &c, &lamp, &lamp)?)
+}
+
+#[test]
+fn builds_a_small_graph(rt: HostRuntime) -> Result<(), Fail> {
+    let alloc = rt.alloc();
+    let t = small_graph(alloc)?;
+    assert_eq!(rt; children_text(alloc, &t)?.as_str(), CHILDREN);
+    assert_eq!(rt; successors_text(alloc, &t)?.as_str(), SUCCESSORS);
+    Ok(())
+}
+
+#[test]
+fn keeps_closure_and_roles(rt: HostRuntime) -> Result<(), Fail> {
+    let t = small_graph(rt.alloc())?;
     assert_eq!(rt; t.closure().count(), 6);
     assert_eq!(rt; t.role_a().locals().len(), 2);
     assert_eq!(rt; t.role_b().start(), 0);
-    assert_eq!(rt; children_text(alloc, &t)?.as_str(), CHILDREN);
-    assert_eq!(rt; successors_text(alloc, &t)?.as_str(), SUCCESSORS);
+    Ok(())
+}
+
+#[test]
+fn carries_what_holds_next(rt: HostRuntime) -> Result<(), Fail> {
+    let t = small_graph(rt.alloc())?;
     assert_eq!(rt; t.ors().len(), 10);
-    let carried = t.ors()[1];
-    assert_eq!(rt; carried.side, Some(Side::A));
-    assert_eq!(rt; (carried.a, carried.b), (0, 0));
-    assert!(rt; carried.row.has(0) && carried.row.has(4));
-    assert!(rt; !carried.row.has(2));
+    let node = t.ors()[1];
+    assert_eq!(rt; node.side, Some(Side::A));
+    assert!(rt; node.row.has(0) && node.row.has(4) && !node.row.has(2));
     Ok(())
 }
 
