@@ -1,5 +1,5 @@
 -- What next-times carry, and the OR nodes that a row's members lead to.
-use Rattle.std.proofs.Common.{ℕ, zero, suc, ◌≡◌, ◌⊎◌, ◌<◌, ◌≤◌, ◌+◌, ◌++◌, ◌&&◌, ◌↔◌, inl, inr, Bool, true, false, Option, Some, None, List, [], ◌∷◌, length, length-append, add-one, refl, subst, sym, ◌∙◌, ap, arith, slice_get, slice_index_or, Contains, MatchOption}
+use Rattle.std.proofs.Common.{ℕ, suc, ◌≡◌, ◌⊎◌, ◌<◌, ◌≤◌, ◌+◌, ◌++◌, ◌&&◌, inl, inr, Bool, true, false, Option, Some, None, List, [], ◌∷◌, length, length-append, add-one, refl, subst, sym, ◌∙◌, ap, arith, slice_get}
 use Rattle.std.specs.Option.{option_to_list}
 use Rattle.std.proofs.lemmas.Bool.{cases_lt}
 use Rattle.std.proofs.lemmas.List.{append-nil}
@@ -11,9 +11,8 @@ use Rattle.closure_sets.specs.Expansion.{no_members}
 use Rattle.closure_sets.specs.Full.{Has}
 use Rattle.closure_sets.specs.Label.{part_of}
 use Rattle.closure_sets.specs.Row.{Members, add, set_of}
-use Rattle.closure_sets.specs.declared.row.Row.{Row}
 use Rattle.closure_sets.proofs.Closures.{member_of}
-use Rattle.closure_sets.proofs.Sets.{add_keeps, add_same, add_back, both_true}
+use Rattle.closure_sets.proofs.Sets.{add_keeps, add_same, add_back}
 use Rattle.tableau_graph.specs.Growing.{IsCarriedBelow, IsCarriedTo, IsNextNode, AreNextNodes}
 use Rattle.tableau_graph.specs.Rules.{IsCarried, IsSuccessor}
 use Rattle.tableau_graph.specs.TableauParts.{row_of, is_some_next, one_more, somes_below}
@@ -93,9 +92,6 @@ next_found c node i h side carried o has is below whole seed = (both_hold (row_o
           origin = ap (λ (x : OrNode). (x.a, x.b)) whole;
           seed = subst (λ (s : Side). IsCarried c (row_of node) s h' (set_of o.row.words)) same_s (subst (λ (k : ℕ). IsCarried c (row_of node) side k (set_of o.row.words)) same_h (carried_whole c (row_of node) side h carried (set_of o.row.words) below seed));
         }
-
-pub next_none : (c : ClosureParts) (node : AndNode) → AreNextNodes c node 0 []
-next_none c node = record { long = refl; each = λ i h side lt. absurd (omega (arith, lt)) }
 
 false_true : false ≡ true → ⊥
 false_true e = cc

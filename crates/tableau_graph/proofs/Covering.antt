@@ -1,19 +1,19 @@
 -- A tableau's children cover what states make true.
-use Rattle.std.proofs.Common.{ℕ, zero, suc, ◌≡◌, ◌⊎◌, ◌<◌, inl, inr, Option, Some, None, List, [], ◌∷◌, length, refl, subst, sym, ◌∙◌, ap, arith, slice_index_or, slice_get, Contains}
+use Rattle.std.proofs.Common.{ℕ, ◌≡◌, ◌<◌, inl, inr, Option, Some, None, List, [], ◌∷◌, length, refl, subst, sym, ◌∙◌, ap, arith, slice_get}
 use Rattle.std.proofs.lemmas.List.Elements.{All-contains}
 use Rattle.std.proofs.lemmas.Option.{slice_get-get_or, slice_get_within, get_or_from_slice_get}
 use Rattle.pair_structure.specs.Role.{RoleParts}
-use Rattle.pair_structure.specs.Structure.{Structure, HasMove, IsOver, IsLawfulMove, OtherStays, TakesArc, label_at}
+use Rattle.pair_structure.specs.Structure.{Structure, HasMove, IsOver, IsLawfulMove, label_at}
 use Rattle.pair_structure.specs.declared.side.Move.{Move}
 use Rattle.pair_structure.specs.declared.side.Side.{Side}
 use Rattle.closure_sets.specs.ClosureParts.{ClosureParts}
-use Rattle.closure_sets.specs.Cover.{ExpansionCovers, IsChosen, IsMetRow, IsTrueAt, HoldsWhole}
+use Rattle.closure_sets.specs.Cover.{ExpansionCovers, IsMetRow, IsTrueAt}
 use Rattle.closure_sets.specs.Expansion.{expansion}
 use Rattle.closure_sets.specs.Full.{EachRow, Among}
 use Rattle.closure_sets.specs.Row.{Members}
 use Rattle.tableau_graph.specs.Graph.{Graph, graph_of, HasChild, HasMetChild, TableauCovers, TableauRootCovers}
-use Rattle.tableau_graph.specs.Rules.{Follows, LeadsTo, IsTableau}
-use Rattle.tableau_graph.specs.TableauParts.{TableauParts, or_at, seed_of, origin_of}
+use Rattle.tableau_graph.specs.Rules.{Follows, LeadsTo}
+use Rattle.tableau_graph.specs.TableauParts.{or_at, seed_of, origin_of}
 use Rattle.tableau_graph.proofs.Expanded.{tableau_has_children}
 
 both_of : (X Y : Members → Type 0) (rows : List Members) → Among X rows → EachRow Y rows → (row : Members) × X row × Y row

@@ -1,5 +1,5 @@
 -- The pairs at the ends of arcs.
-use Rattle.std.proofs.Common.{ℕ, ◌≡◌, ◌⊎◌, ◌<◌, ◌+◌, ◌++◌, ◌↔◌, inl, inr, Option, Some, None, List, [], ◌∷◌, length, take, refl, subst, sym, ◌∙◌, ap, arith, slice_index_or, Contains, MatchOption}
+use Rattle.std.proofs.Common.{ℕ, ◌≡◌, ◌<◌, ◌+◌, ◌++◌, ◌↔◌, inl, inr, Option, Some, None, List, [], ◌∷◌, length, take, subst, sym, ◌∙◌, ap, slice_index_or, Contains, MatchOption}
 use Rattle.std.specs.Option.{option_to_list}
 use Rattle.std.proofs.lemmas.List.{take_more, append-nil}
 use Rattle.std.proofs.lemmas.List.Elements.{Contains-push, Contains-push_cases, Contains-append_left}

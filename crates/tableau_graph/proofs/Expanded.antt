@@ -1,15 +1,14 @@
 -- What a tableau's rules say of an edge.
-use Rattle.std.proofs.Common.{ℕ, zero, suc, ◌≡◌, ◌⊎◌, ◌<◌, inl, inr, false, true, Option, Some, None, List, [], ◌∷◌, length, refl, subst, sym, ◌∙◌, ap, arith, slice_index_or, Contains}
+use Rattle.std.proofs.Common.{ℕ, zero, suc, ◌≡◌, ◌<◌, inl, inr, Option, Some, None, List, [], ◌∷◌, length, subst, sym, ◌∙◌, arith, Contains}
 use Rattle.pair_structure.specs.Role.{RoleParts}
 use Rattle.pair_structure.specs.declared.side.Side.{Side}
-use Rattle.closure_sets.specs.ClosureParts.{ClosureParts}
 use Rattle.closure_sets.specs.Cover.{ExpansionIsFull}
 use Rattle.closure_sets.specs.Expansion.{expansion}
 use Rattle.closure_sets.specs.Firsts.{Stands}
-use Rattle.closure_sets.specs.Full.{Has, EachRow, IsExpansion}
+use Rattle.closure_sets.specs.Full.{EachRow, IsExpansion}
 use Rattle.closure_sets.specs.Row.{Members}
-use Rattle.tableau_graph.specs.Graph.{graph_of, IsSomeNext, IsGraph, FollowArcs, StartsAtRoot, HasChildren, TableauIsGraph, TableauFollowsArcs, TableauStarts, TableauHasChildren}
-use Rattle.tableau_graph.specs.Rules.{Follows, LeadsTo, IsChild, AreChildren, IsSuccessor, AreSuccessors, IsTableau}
+use Rattle.tableau_graph.specs.Graph.{graph_of, IsSomeNext, TableauIsGraph, TableauFollowsArcs, TableauStarts, TableauHasChildren}
+use Rattle.tableau_graph.specs.Rules.{Follows, LeadsTo, AreChildren, IsSuccessor, AreSuccessors, IsTableau}
 use Rattle.tableau_graph.specs.TableauParts.{TableauParts, and_at, or_at, pair_of, row_of, origin_of, seed_of, edges_at}
 
 -- a list of lists has edges only at the numbers of its lists

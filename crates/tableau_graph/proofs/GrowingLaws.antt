@@ -1,5 +1,5 @@
 -- The rules where the growing tableau's next node is expanded.
-use Rattle.std.proofs.Common.{ℕ, ◌≡◌, ◌<◌, ◌++◌, ◌↔◌, List, [], ◌∷◌, length, map, refl, subst, sym, ◌∙◌, ap, arith, Contains}
+use Rattle.std.proofs.Common.{ℕ, ◌≡◌, ◌<◌, ◌++◌, ◌↔◌, List, [], ◌∷◌, length, subst, sym, ◌∙◌, ap, arith, Contains}
 use Rattle.std.specs.Global.{Vec}
 use Rattle.std.proofs.lemmas.List.{map-append, length-map}
 use Rattle.pair_structure.specs.Role.{RoleParts}
@@ -7,7 +7,7 @@ use Rattle.closure_sets.specs.ClosureParts.{ClosureParts, count}
 use Rattle.tableau_graph.specs.Growing.{AreNodesAt, AreNextNodes, lists_of, parts_of}
 use Rattle.tableau_graph.specs.NodeTable.{AreNumbers}
 use Rattle.tableau_graph.specs.Rules.{LeadsTo, AreApart, FollowsRules}
-use Rattle.tableau_graph.specs.TableauParts.{TableauParts, and_at, or_at, origin_of, seed_of}
+use Rattle.tableau_graph.specs.TableauParts.{and_at, or_at, origin_of, seed_of}
 use Rattle.tableau_graph.specs.declared.growing.Growing.{Growing}
 use Rattle.tableau_graph.specs.declared.nodes.AndNode.{AndNode}
 use Rattle.tableau_graph.specs.declared.nodes.OrNode.{OrNode}

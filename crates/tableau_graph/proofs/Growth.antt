@@ -1,5 +1,5 @@
 -- What a tableau's rules keep where it grows.
-use Rattle.std.proofs.Common.{ℕ, zero, suc, ◌≡◌, ◌⊎◌, ◌<◌, ◌≤◌, ◌+◌, ◌++◌, ◌↔◌, inl, inr, false, true, Option, Some, None, List, [], ◌∷◌, length, length-append, refl, subst, sym, ◌∙◌, ap, arith, slice_get, slice_index_or, Contains}
+use Rattle.std.proofs.Common.{ℕ, zero, suc, ◌≡◌, ◌<◌, ◌≤◌, ◌++◌, ◌↔◌, inl, inr, false, Some, List, [], ◌∷◌, length, length-append, subst, sym, ◌∙◌, ap, arith, slice_get, slice_index_or, Contains}
 use Rattle.std.proofs.lemmas.Bool.{cases_lt}
 use Rattle.std.proofs.lemmas.List.Elements.{Contains-get_or}
 use Rattle.std.proofs.lemmas.Option.{slice_get-get_or, slice_get_within, get_or_from_slice_get}
@@ -149,7 +149,7 @@ last_edges lists numbers = get_or-append_seam lists numbers [] []
 pub or_expanded : (t : TableauParts) (ands : List AndNode) (pairs : List (ℕ × ℕ)) (nodes : List AndNode) (numbers : List ℕ) → FollowsRules t → length t.children < length t.ors
     → ((pair : ℕ × ℕ) → Contains pairs pair ↔ LeadsTo t.a t.b (or_at t.ors (length t.children)).side (origin_of (or_at t.ors (length t.children))) pair) → AreNodesAt t.closure pairs (seed_of (or_at t.ors (length t.children))) nodes
     → AreNumbers t.ands nodes ands numbers → AreApart ands → FollowsRules (with_nodes t ands t.ors (t.children ++ numbers ∷ []) t.successors)
-or_expanded t ands pairs nodes numbers rules below_all leads are numbered apart = record {
+or_expanded t ands pairs nodes numbers rules unexpanded leads are numbered apart = record {
   closure = rules.closure;
   role_a = rules.role_a;
   role_b = rules.role_b;
@@ -157,7 +157,7 @@ or_expanded t ands pairs nodes numbers rules below_all leads are numbered apart 
   root = record { sided = rules.root.sided; origin = rules.root.origin; seed = rules.root.seed };
   ands_apart = apart;
   ors_apart = rules.ors_apart;
-  listed_ors = omega (arith, below_all, length-append t.children (numbers ∷ []));
+  listed_ors = omega (arith, unexpanded, length-append t.children (numbers ∷ []));
   listed_ands = listed;
   children = children;
   successors = λ n lt. successors_at n lt;
@@ -189,13 +189,13 @@ or_expanded t ands pairs nodes numbers rules below_all leads are numbered apart 
     ands_reached : (n : ℕ) → n < length ands → IsReachedAnd (with_nodes t ands t.ors (t.children ++ numbers ∷ []) t.successors) n
     ands_reached n lt = elim (cases_lt n (length t.ands)) [
       | inl old ↦ reached_and_kept t ands t.ors (t.children ++ numbers ∷ []) t.successors (kept_more t.children (numbers ∷ [])) (kept_same t.successors) n (rules.ands_reached n old)
-      | inr new ↦ (length t.children, reached_or_kept t ands t.ors (t.children ++ numbers ∷ []) t.successors (kept_more t.children (numbers ∷ [])) (kept_same t.successors) (length t.children) (rules.ors_reached (length t.children) below_all), subst (λ (l : List ℕ). Contains l n) (sym (last_edges t.children numbers)) (numbered.new n new lt))
+      | inr new ↦ (length t.children, reached_or_kept t ands t.ors (t.children ++ numbers ∷ []) t.successors (kept_more t.children (numbers ∷ [])) (kept_same t.successors) (length t.children) (rules.ors_reached (length t.children) unexpanded), subst (λ (l : List ℕ). Contains l n) (sym (last_edges t.children numbers)) (numbered.new n new lt))
     ]
 
 -- the rules where an AND node is expanded
 pub and_expanded : (t : TableauParts) (ors : List OrNode) (nodes : List OrNode) (numbers : List ℕ) → FollowsRules t → length t.successors < length t.ands → AreNextNodes t.closure (and_at t.ands (length t.successors)) (count t.closure) nodes
     → AreNumbers t.ors nodes ors numbers → AreApart ors → FollowsRules (with_nodes t t.ands ors t.children (t.successors ++ numbers ∷ []))
-and_expanded t ors nodes numbers rules below_all are numbered apart = record {
+and_expanded t ors nodes numbers rules unexpanded are numbered apart = record {
   closure = rules.closure;
   role_a = rules.role_a;
   role_b = rules.role_b;
@@ -204,7 +204,7 @@ and_expanded t ors nodes numbers rules below_all are numbered apart = record {
   ands_apart = rules.ands_apart;
   ors_apart = apart;
   listed_ors = listed;
-  listed_ands = omega (arith, below_all, length-append t.successors (numbers ∷ []));
+  listed_ands = omega (arith, unexpanded, length-append t.successors (numbers ∷ []));
   children = λ o lt. children_at o lt;
   successors = successors;
   ands_reached = λ n lt. reached_and_kept t t.ands ors t.children (t.successors ++ numbers ∷ []) (kept_same t.children) (kept_more t.successors (numbers ∷ [])) n (rules.ands_reached n lt);
@@ -232,7 +232,7 @@ and_expanded t ors nodes numbers rules below_all are numbered apart = record {
     via : (o : ℕ) → Contains numbers o → IsReachedOr (with_nodes t t.ands ors t.children (t.successors ++ numbers ∷ [])) o
     via o h =
         let n : ℕ = length t.successors in
-        let k = reached_and_kept t t.ands ors t.children (t.successors ++ numbers ∷ []) (kept_same t.children) (kept_more t.successors (numbers ∷ [])) n (rules.ands_reached n below_all) in
+        let k = reached_and_kept t t.ands ors t.children (t.successors ++ numbers ∷ []) (kept_same t.children) (kept_more t.successors (numbers ∷ [])) n (rules.ands_reached n unexpanded) in
         (suc k.1.0, (k.0, n, k.1.1, k.2, subst (λ (l : List ℕ). Contains l o) (sym (last_edges t.successors numbers)) h))
 
     ors_reached : (o : ℕ) → o < length ors → IsReachedOr (with_nodes t t.ands ors t.children (t.successors ++ numbers ∷ [])) o

@@ -1,14 +1,13 @@
 -- What the table of nodes keeps where a node is added, and what it says of the numbers of several nodes.
-use Rattle.std.proofs.Common.{ℕ, zero, suc, ◌≡◌, ◌⊎◌, ◌<◌, ◌≤◌, ◌-◌, ◌+◌, ◌++◌, inl, inr, Bool, true, false, cond, Option, Some, None, List, [], ◌∷◌, length, length-append, take, refl, subst, sym, ◌∙◌, ap, arith, slice_get, slice_index_or, Contains}
+use Rattle.std.proofs.Common.{ℕ, ◌≡◌, ◌⊎◌, ◌<◌, ◌≤◌, ◌+◌, ◌++◌, inl, inr, Bool, true, false, cond, Option, Some, List, [], ◌∷◌, length, length-append, take, refl, subst, sym, ◌∙◌, ap, arith, slice_get, slice_index_or, Contains}
 use Rattle.std.specs.BTreeMap.{BTreeMap, get, is_at}
-use Rattle.std.specs.Map.{lookup}
 use Rattle.std.specs.declared.cmp.Ordering.{Ordering}
-use Rattle.std.proofs.lemmas.List.{take_all, take-append-le, take_more}
+use Rattle.std.proofs.lemmas.List.{take_more}
 use Rattle.std.proofs.lemmas.Map.Lookups.{CmpEqualImpliesEq}
 use Rattle.std.proofs.lemmas.Map.Views.{tells_apart}
 use Rattle.std.proofs.lemmas.Bool.{cases_lt}
 use Rattle.std.proofs.lemmas.List.Elements.{Contains-push, Contains-append_left}
-use Rattle.std.proofs.lemmas.Option.{same_Some, none-some, slice_get_within}
+use Rattle.std.proofs.lemmas.Option.{same_Some, slice_get_within}
 use Rattle.tableau_graph.specs.NodeTable.{IsTable, IsNumber, AreNumbers}
 use Rattle.tableau_graph.specs.Rules.{AreApart}
 use Rattle.tableau_graph.proofs.Places.{kept_before, stands_last, before_or_last}
@@ -48,37 +47,6 @@ table_push {N} cmp exact nodes nodes' node numbers numbers' n t new at_end updat
       | inl hit ↦ subst (λ (j : ℕ). slice_get (nodes ++ node ∷ []) j ≡ Some q) (sym at_end ∙ hit.1) (subst (λ (z : N). slice_get (nodes ++ node ∷ []) (length nodes) ≡ Some z) (hits q hit.0) (stands_last nodes node))
       | inr old ↦ kept_before nodes (node ∷ []) k q (t.only q k old)
     ]
-
--- the same table
-pub table_same : {N : Type 0} (cmp : N → N → Ordering) (nodes nodes' : List N) (numbers numbers' : BTreeMap N ℕ) → IsTable cmp nodes numbers → nodes' ≡ nodes → numbers'.entries ≡ numbers.entries → IsTable cmp nodes' numbers'
-table_same {N} cmp nodes nodes' numbers numbers' t e same =
-    let alike : (q : N) → get cmp numbers' q ≡ get cmp numbers q = λ q. ap (lookup (is_at (cmp q))) same in
-    subst (λ (l : List N). IsTable cmp l numbers') (sym e) (record { found = λ q k f. alike q ∙ t.found q k f; only = λ q k f. t.only q k (sym (alike q) ∙ f) })
-
--- a node that was pushed and popped
-pub popped_back : {N : Type 0} (nodes pushed popped : List N) (node : N) (n : ℕ) → pushed ≡ nodes ++ node ∷ [] → n ≡ length pushed → popped ≡ take (n - 1) pushed → popped ≡ nodes
-popped_back nodes pushed popped node n e long rest =
-    let at_end : n - 1 ≡ length nodes = omega (arith, long, ap length e, length-append nodes (node ∷ [])) in
-    rest ∙ ap (λ (k : ℕ). take k pushed) at_end ∙ ap (take (length nodes)) e ∙ take-append-le (length nodes) nodes (node ∷ []) (omega arith) ∙ take_all (length nodes) nodes (omega arith)
-
--- the number of a node that has one, and of one that was added
-pub number_found : {N : Type 0} (nodes : List N) (node : N) (n : ℕ) → slice_get nodes n ≡ Some node → IsNumber nodes node nodes n
-number_found nodes node n e = record { at = e; grown = inl refl }
-
-pub number_added : {N : Type 0} (nodes nodes' : List N) (node : N) (n : ℕ) → n ≡ length nodes → nodes' ≡ nodes ++ node ∷ [] → IsNumber nodes node nodes' n
-number_added {N} nodes nodes' node n at_end e = record {
-  at = subst (λ (l : List N). slice_get l n ≡ Some node) (sym e) (subst (λ (k : ℕ). slice_get (nodes ++ node ∷ []) k ≡ Some node) (sym at_end) (stands_last nodes node));
-  grown = inr (at_end, e);
-}
-
--- no nodes have no numbers
-pub numbers_none : {N : Type 0} (nodes : List N) → AreNumbers nodes [] nodes []
-numbers_none nodes = record {
-  kept = λ n node e. e;
-  long = refl;
-  at = λ k n node e f. absurd (none-some node e);
-  new = λ n le lt. absurd (omega (arith, le, lt));
-}
 
 -- the numbers of nodes, and of one more
 pub numbers_push : {N : Type 0} (before nodes middle after : List N) (node : N) (numbers numbers' : List ℕ) (n : ℕ) → AreNumbers before nodes middle numbers → IsNumber middle node after n → numbers' ≡ numbers ++ n ∷ [] → AreNumbers before (nodes ++ node ∷ []) after numbers'

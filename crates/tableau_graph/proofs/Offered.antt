@@ -1,12 +1,12 @@
 -- The nodes of a seed at several pairs.
-use Rattle.std.proofs.Common.{ℕ, zero, suc, ◌≡◌, ◌⊎◌, ◌<◌, ◌+◌, ◌++◌, inl, inr, List, [], ◌∷◌, length, map, take, refl, subst, sym, ◌∙◌, ap, arith, slice_index_or, Contains}
+use Rattle.std.proofs.Common.{ℕ, zero, suc, ◌≡◌, ◌<◌, ◌+◌, ◌++◌, inl, inr, List, [], ◌∷◌, length, map, take, refl, subst, sym, ap, arith, slice_index_or, Contains}
 use Rattle.std.proofs.lemmas.List.{take_more}
 use Rattle.std.proofs.lemmas.List.Elements.{Contains-push, Contains-push_cases, Contains-append_left, Contains-append_right, Contains-append_cases}
 use Rattle.closure_sets.specs.ClosureParts.{ClosureParts}
 use Rattle.closure_sets.specs.Expansion.{expansion}
-use Rattle.closure_sets.specs.Firsts.{Stands, AreFirsts, AreNoted}
-use Rattle.closure_sets.specs.Found.{sets_of, set_of_row}
-use Rattle.closure_sets.specs.Full.{EachRow, Among}
+use Rattle.closure_sets.specs.Firsts.{Stands, AreFirsts}
+use Rattle.closure_sets.specs.Found.{sets_of}
+use Rattle.closure_sets.specs.Full.{EachRow}
 use Rattle.closure_sets.specs.Row.{Members}
 use Rattle.closure_sets.specs.declared.row.Row.{Row}
 use Rattle.closure_sets.proofs.NotedLaws.{each_of_noted, among_noted}
@@ -80,6 +80,3 @@ pub nodes_step : (c : ClosureParts) (pairs : List (ℕ × ℕ)) (seed : Members)
 nodes_step c pairs seed nodes nodes' rows i d lt are firsts e =
     let pair : ℕ × ℕ = slice_index_or pairs i d in
     subst (λ (l : List (ℕ × ℕ)). AreNodesAt c l seed nodes') (sym (take_more pairs i d lt)) (subst (AreNodesAt c (take i pairs ++ pair ∷ []) seed) (sym e) (nodes_push c (take i pairs) pair seed nodes rows are firsts))
-
-pub nodes_none : (c : ClosureParts) (seed : Members) → AreNodesAt c [] seed []
-nodes_none c seed = record { each = λ node h. absurd (let lt : h.0 < 0 = h.1 in omega (arith, lt)); all = λ pair h. absurd (let lt : h.0 < 0 = h.1 in omega (arith, lt)) }

@@ -1,6 +1,6 @@
 -- What stands at a place of a list that another was put behind.
-use Rattle.std.proofs.Common.{ℕ, zero, suc, ◌≡◌, ◌⊎◌, ◌<◌, ◌≤◌, ◌+◌, ◌++◌, inl, inr, Option, Some, None, List, [], ◌∷◌, length, length-append, refl, subst, sym, ap, arith, slice_get, slice_index_or, Contains}
-use Rattle.std.proofs.lemmas.Option.{same_Some, none-some, slice_get-get_or, slice_get_within, get_or_from_slice_get}
+use Rattle.std.proofs.Common.{ℕ, zero, suc, ◌≡◌, ◌⊎◌, ◌++◌, inl, inr, Some, List, [], ◌∷◌, length, refl, subst, ap, slice_get, Contains}
+use Rattle.std.proofs.lemmas.Option.{same_Some, none-some, slice_get-get_or}
 
 pub kept_before : {X : Type 0} (xs ys : List X) (n : ℕ) (x : X) → slice_get xs n ≡ Some x → slice_get (xs ++ ys) n ≡ Some x
 kept_before [] ys n x e = absurd (none-some x e)
@@ -16,9 +16,6 @@ before_or_last [] y zero x e = inr (refl, same_Some y x e)
 before_or_last [] y (suc n) x e = absurd (none-some x e)
 before_or_last (z ∷ xs) y zero x e = inl e
 before_or_last (z ∷ xs) y (suc n) x e = elim (before_or_last xs y n x e) [ inl h ↦ inl h | inr h ↦ inr (ap (λ k. suc k) h.0, h.1) ]
-
-pub contains_at : {X : Type 0} (xs : List X) (n : ℕ) (x : X) → slice_get xs n ≡ Some x → Contains xs x
-contains_at xs n x e = (n, slice_get_within xs n x e, get_or_from_slice_get xs n x x e)
 
 pub at_contained : {X : Type 0} (xs : List X) (x : X) → Contains xs x → (n : ℕ) × (slice_get xs n ≡ Some x)
 at_contained xs x h = (h.0, subst (λ y. slice_get xs h.0 ≡ Some y) h.2 (slice_get-get_or xs h.0 x h.1))

@@ -1,13 +1,13 @@
 -- The root alone follows the rules.
-use Rattle.std.proofs.Common.{ℕ, zero, suc, ◌≡◌, ◌⊎◌, ◌<◌, ◌≤◌, ◌+◌, ◌++◌, ◌↔◌, inl, inr, false, true, Option, Some, None, List, [], ◌∷◌, length, take, All, refl, subst, sym, ◌∙◌, ap, arith, slice_get, slice_index_or, Contains}
-use Rattle.std.proofs.lemmas.List.{take_more, take_all}
+use Rattle.std.proofs.Common.{ℕ, ◌≡◌, ◌<◌, ◌+◌, ◌++◌, ◌↔◌, inl, inr, false, true, List, [], ◌∷◌, length, take, subst, sym, ◌∙◌, ap, arith, slice_get, slice_index_or, Contains}
+use Rattle.std.proofs.lemmas.List.{take_more}
 use Rattle.std.proofs.lemmas.List.Elements.{Contains-push, Contains-push_cases, Contains-append_left}
 use Rattle.std.proofs.lemmas.Option.{none-some, slice_get_within}
-use Rattle.pair_structure.specs.Role.{RoleParts, IsRole}
-use Rattle.closure_sets.specs.ClosureParts.{ClosureParts, IsClosureParts}
+use Rattle.pair_structure.specs.Role.{IsRole}
+use Rattle.closure_sets.specs.ClosureParts.{IsClosureParts}
 use Rattle.closure_sets.specs.Expansion.{no_members}
 use Rattle.closure_sets.specs.Full.{Has}
-use Rattle.closure_sets.specs.Row.{Members, add, set_of}
+use Rattle.closure_sets.specs.Row.{Members, add}
 use Rattle.closure_sets.proofs.Sets.{add_keeps, add_same, add_back}
 use Rattle.tableau_graph.specs.NodeTable.{IsNumber}
 use Rattle.tableau_graph.specs.Rules.{IsRoot, AreApart, FollowsRules}

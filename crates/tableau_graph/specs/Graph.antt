@@ -1,7 +1,7 @@
 -- A graph of AND and OR nodes by number, as the rules of deletion and unravelling speak of it, and what a tableau's graph is.
-use Rattle.std.specs.Prelude.{ℕ, ◌≡◌, ◌⊎◌, ◌<◌, ◌↔◌, Bool, true, false, List, Contains, length, Some, slice_get}
+use Rattle.std.specs.Prelude.{ℕ, ◌≡◌, ◌<◌, false, List, Contains, length, Some, slice_get}
 use Rattle.pair_structure.specs.Role.{RoleParts}
-use Rattle.pair_structure.specs.Structure.{Structure, HasMove, IsOver, TakesArc, OtherStays}
+use Rattle.pair_structure.specs.Structure.{Structure, HasMove, IsOver}
 use Rattle.pair_structure.specs.declared.side.Side.{Side}
 use Rattle.ctl_form.specs.declared.part.Part.TheVariants.{Next}
 use Rattle.closure_sets.specs.ClosureParts.{ClosureParts, count}

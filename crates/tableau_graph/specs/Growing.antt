@@ -1,5 +1,5 @@
 -- How a tableau grows: the nodes of one expansion, and the parts so far.
-use Rattle.std.specs.Prelude.{ℕ, ◌≡◌, ◌<◌, ◌⊎◌, ◌↔◌, ◌+◌, ◌-◌, ◌^◌, ◌&&◌, ◌++◌, Bool, true, false, Option, Some, None, List, [], ◌∷◌, length, map, Contains, slice_get, MatchOption}
+use Rattle.std.specs.Prelude.{ℕ, ◌≡◌, ◌<◌, ◌⊎◌, ◌↔◌, ◌+◌, ◌-◌, ◌^◌, ◌&&◌, Bool, true, false, Option, Some, List, length, map, Contains, slice_get, MatchOption}
 use Rattle.std.specs.Global.{Vec}
 use Rattle.pair_structure.specs.Role.{RoleParts}
 use Rattle.pair_structure.specs.declared.side.LocalArc.{LocalArc}

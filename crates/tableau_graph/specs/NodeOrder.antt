@@ -1,6 +1,6 @@
 -- The orders of nodes tell all nodes apart.
 use Rattle.std.specs.Prelude.{ℕ, ◌≡◌, Option, Some, None, List}
-use Rattle.std.proofs.Common.{refl, sym, ◌∙◌, ap}
+use Rattle.std.proofs.Common.{refl, ◌∙◌, ap}
 use Rattle.std.specs.declared.cmp.Ordering.{Ordering}
 use Rattle.std.specs.declared.cmp.Ordering.TheVariants.{Less, Equal, Greater}
 use Rattle.std.specs.Option.{option_cmp}

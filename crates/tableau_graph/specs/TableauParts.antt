@@ -1,6 +1,5 @@
 -- What contracts see of a tableau: its AND nodes and its OR nodes in the order of their numbers, and the edges between them.
-use Rattle.std.specs.Prelude.{ℕ, zero, suc, Bool, true, false, ◌&&◌, Option, Some, None, List, [], slice_index_or}
-use Rattle.pair_structure.specs.declared.side.Side.{Side}
+use Rattle.std.specs.Prelude.{ℕ, zero, suc, Bool, true, false, ◌&&◌, None, List, [], slice_index_or}
 use Rattle.pair_structure.specs.Role.{RoleParts}
 use Rattle.ctl_form.specs.declared.part.Part.{Part}
 use Rattle.ctl_form.specs.declared.part.Part.TheVariants.{Yes, No, Lit, Both, Either, Next, Until}

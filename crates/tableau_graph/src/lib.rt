@@ -10,6 +10,8 @@ mod nodes;
 mod push_some;
 mod successors;
 mod tableau;
+#[cfg(test)]
+mod tests;
 
 pub use laws::{
     tableau_covers, tableau_follows_arcs, tableau_has_children, tableau_is_graph,

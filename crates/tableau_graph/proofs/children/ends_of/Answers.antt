@@ -1,4 +1,4 @@
-use Rattle.std.proofs.Common.{List, length, false, subst}
+use Rattle.std.proofs.Common.{List, false, subst}
 use Rattle.std.proofs.lemmas.List.{take_all}
 use Rattle.pair_structure.specs.declared.side.LocalArc.{LocalArc}
 use Rattle.tableau_graph.specs.Growing.{AreEnds}

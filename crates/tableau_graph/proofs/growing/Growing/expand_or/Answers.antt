@@ -1,6 +1,5 @@
 use Rattle.std.proofs.Common.{ℕ, ◌↔◌, List, subst, sym, Contains}
 use Rattle.tableau_graph.specs.Growing.{AreNodesAt}
-use Rattle.tableau_graph.specs.NodeTable.{AreNumbers}
 use Rattle.tableau_graph.specs.Rules.{LeadsTo}
 use Rattle.tableau_graph.specs.TableauParts.{origin_of, seed_of}
 use Rattle.tableau_graph.specs.declared.nodes.AndNode.{AndNode}

@@ -1,4 +1,4 @@
-use Rattle.std.proofs.Common.{List, Some, slice_get, ◌≡◌, ℕ, length, arith, subst, sym}
+use Rattle.std.proofs.Common.{◌≡◌, length, arith, subst, sym}
 use Rattle.tableau_graph.proofs.NodeTables.{table_push, IsNew}
 use Rattle.tableau_graph.proofs.node_table.NodeTable.add.Goals as goal
 
