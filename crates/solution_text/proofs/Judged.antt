@@ -1,5 +1,5 @@
 -- What stands against a line, from what stands against what it says.
-use Rattle.std.proofs.Common.{ℕ, ◌≡◌, ◌<◌, ◌≤◌, inl, inr, List, [], ◌∷◌, refl, sym, ap, ◌∙◌, arith, subst, true, false}
+use Rattle.std.proofs.Common.{ℕ, ◌≡◌, ◌<◌, ◌≤◌, inl, inr, List, [], ◌∷◌, refl, ap, ◌∙◌, arith, subst}
 use Rattle.pair_structure.specs.Role.{RoleParts}
 use Rattle.ctl_form.specs.declared.pair_spec.PairSpec.{PairSpec}
 use Rattle.ctl_text.specs.declared.cause.TextCause.{TextCause}
@@ -10,7 +10,7 @@ use Rattle.strict_text.specs.Words.{words_of}
 use Rattle.solution_text.specs.declared.line_fault.LineFault.{LineFault}
 use Rattle.solution_text.specs.declared.line_fault.LineFault.TheVariants.{Bad, Memory}
 use Rattle.solution_text.specs.Item.{Said, head_line, kind_line, state_line, move_line, end_line, done_line, words_for, Says}
-use Rattle.solution_text.specs.State.{Group, before_head, among_kinds, in_kind, after_done, State, MayStand, after}
+use Rattle.solution_text.specs.State.{Group, before_head, among_kinds, in_kind, after_done, State, MayStand}
 use Rattle.solution_text.specs.Cause.{KindBlocks, StateBlocks, EndBlocks, Blocks, MaySay, LacksHead, Stands, Takes}
 use Rattle.solution_text.specs.Answers.{IsTakenAs, IsBadBy}
 use Rattle.solution_text.proofs.ItemLaws.{says_once}

@@ -1,5 +1,5 @@
 -- A text that stands for structures is their one text, and they are over the roles of their kinds.
-use Rattle.std.proofs.Common.{ℕ, ◌≡◌, ◌≢◌, ◌<◌, ◌+◌, ◌⊎◌, inl, inr, true, false, List, [], ◌∷◌, ◌++◌, length, get_or, Contains, refl, sym, ap, ◌∙◌, subst, arith, append_assoc, append-nil, length-append}
+use Rattle.std.proofs.Common.{ℕ, ◌≡◌, ◌≢◌, ◌<◌, inl, inr, true, false, List, [], ◌∷◌, ◌++◌, length, get_or, Contains, refl, sym, ap, ◌∙◌, subst, arith, append_assoc, append-nil, length-append}
 use Rattle.std.specs.List.{flat_map}
 use Rattle.std.specs.Str.{bytes_eq}
 use Rattle.std.proofs.lemmas.Slice.Eq.{bytes_eq-Decides}
@@ -19,9 +19,9 @@ use Rattle.strict_text.proofs.WordLaws.{one_line}
 use Rattle.strict_text.proofs.LineLaws.{text_of_lines}
 use Rattle.solution_text.specs.Item.{Said, head_line, kind_line, state_line, move_line, end_line, done_line, words_for}
 use Rattle.solution_text.specs.State.{Group, before_head, among_kinds, in_kind, after_done, State, first_state, MayStand, after}
-use Rattle.solution_text.specs.Cause.{LabelBlocks, KindBlocks, Blocks, MaySay, EndsWhole, Takes}
-use Rattle.solution_text.specs.Text.{Gives, StandsFor, IsSolutionText}
-use Rattle.solution_text.specs.SolutionText.{item_text, state_text, move_text, kind_text, kinds_text, solution_text, AreOver}
+use Rattle.solution_text.specs.Cause.{LabelBlocks, Blocks, EndsWhole}
+use Rattle.solution_text.specs.Text.{StandsFor, IsSolutionText}
+use Rattle.solution_text.specs.SolutionText.{item_text, state_text, move_text, kinds_text, solution_text, AreOver}
 use Rattle.solution_text.proofs.Judged.{blocks_stand}
 
 -- the text behind the states and moves of an open kind

@@ -7,7 +7,6 @@ use Rattle.strict_text.specs.Lines.{Line, lines_of, text_of}
 use Rattle.strict_text.proofs.LineLaws.{AreEnded, lines_append, text_of_lines}
 use Rattle.solution_text.specs.Item.{Said}
 use Rattle.solution_text.specs.State.{Group, after_done, State, first_state, MayStand}
-use Rattle.solution_text.specs.Cause.{Takes}
 use Rattle.solution_text.specs.Text.{StandsFor, IsSolutionText}
 use Rattle.solution_text.proofs.TextLaws.{takes_once}
 

@@ -1,5 +1,5 @@
 -- A text stands for one solution at most, and is never both read and refused.
-use Rattle.std.proofs.Common.{ℕ, ◌≡◌, ◌+◌, ◌⊎◌, inl, inr, List, [], ◌∷◌, sym, ap, ◌∙◌, subst}
+use Rattle.std.proofs.Common.{ℕ, ◌≡◌, ◌+◌, inl, inr, List, [], ◌∷◌, sym, ap, ◌∙◌, subst}
 use Rattle.pair_structure.specs.Role.{RoleParts}
 use Rattle.pair_structure.specs.Structure.{Structure}
 use Rattle.ctl_text.specs.declared.cause.TextCause.{TextCause}

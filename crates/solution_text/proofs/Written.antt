@@ -1,5 +1,5 @@
 -- What is written of a solution is a text of it.
-use Rattle.std.proofs.Common.{ℕ, zero, suc, ◌≡◌, ◌≢◌, ◌<◌, ◌≤◌, ◌+◌, ◌^◌, inl, inr, true, false, List, [], ◌∷◌, ◌++◌, All, Contains, length, get_or, refl, sym, ap, ◌∙◌, subst, arith, append_assoc, append-nil, codes, decimal}
+use Rattle.std.proofs.Common.{ℕ, suc, ◌≡◌, ◌<◌, ◌≤◌, ◌^◌, inl, inr, true, List, [], ◌∷◌, ◌++◌, All, Contains, length, get_or, refl, sym, subst, arith, append_assoc, append-nil, codes}
 use Rattle.std.specs.List.{flat_map}
 use Rattle.std.specs.Char.{is_ascii_alphabetic}
 use Rattle.std.proofs.lemmas.Bool.Decides.{nat_tests}
@@ -15,20 +15,20 @@ use Rattle.ctl_form.specs.Kind.{role_at}
 use Rattle.ctl_text.specs.declared.cause.TextCause.{TextCause}
 use Rattle.ctl_text.specs.Cause.{IsFree}
 use Rattle.ctl_text.specs.FormulaText.{Names, name_at}
-use Rattle.ctl_text.specs.SoundValue.{Differ, IsNamedRole, IsNamedKind, IsSoundValue}
-use Rattle.ctl_text.specs.Value.{SpecParts, number_in}
+use Rattle.ctl_text.specs.SoundValue.{IsNamedRole, IsNamedKind, IsSoundValue}
+use Rattle.ctl_text.specs.Value.{SpecParts}
 use Rattle.ctl_text.proofs.KindsAgain.{role_named}
 use Rattle.ctl_text.proofs.RolesAgain.{number_again, use_free}
 use Rattle.strict_text.specs.Lines.{Line, lines_of}
-use Rattle.strict_text.specs.Spaced.{spaced, line_text, IsWord, AreWords}
+use Rattle.strict_text.specs.Spaced.{spaced, IsWord, AreWords}
 use Rattle.strict_text.proofs.NumberLaws.{decimal_word}
 use Rattle.strict_text.proofs.WordLaws.{words_of_line, line_of_words, strict_words, word_of_bytes}
 use Rattle.solution_text.specs.Item.{Said, head_line, kind_line, state_line, move_line, end_line, done_line, side_word, words_for, IsSpelled}
-use Rattle.solution_text.specs.State.{Group, before_head, among_kinds, in_kind, after_done, State, first_state, MayStand, after}
+use Rattle.solution_text.specs.State.{among_kinds, in_kind, State, first_state, MayStand, after}
 use Rattle.solution_text.specs.Cause.{LabelBlocks, Blocks, MaySay, EndsWhole}
 use Rattle.solution_text.specs.Laws.{IsNumbered}
 use Rattle.solution_text.specs.Text.{StandsFor, IsSolutionText}
-use Rattle.solution_text.specs.SolutionText.{item_text, state_text, move_text, structure_text, kind_text, kinds_text, solution_text, AreOver}
+use Rattle.solution_text.specs.SolutionText.{item_text, state_text, move_text, kind_text, kinds_text, solution_text, AreOver}
 use Rattle.solution_text.proofs.Blocked.{pair_free}
 use Rattle.solution_text.proofs.Judged.{said_takes}
 

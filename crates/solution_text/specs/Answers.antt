@@ -1,12 +1,11 @@
 -- What reading a line and a text answers.
-use Rattle.std.specs.Prelude.{ℕ, ◌≡◌, ◌<◌, List, length}
+use Rattle.std.specs.Prelude.{ℕ, ◌≡◌, ◌<◌, List}
 use Rattle.pair_structure.specs.Role.{RoleParts}
 use Rattle.ctl_form.specs.declared.pair_spec.PairSpec.{PairSpec}
 use Rattle.ctl_text.specs.declared.cause.TextCause.{TextCause}
 use Rattle.ctl_text.specs.declared.cause.TextFault.{TextFault}
 use Rattle.ctl_text.specs.declared.cause.TextFault.TheVariants.{At, Memory}
 use Rattle.ctl_text.specs.Cause.{IsLowest, IsFree}
-use Rattle.strict_text.specs.Lines.{Line}
 use Rattle.solution_text.specs.declared.line_fault.LineFault.{LineFault}
 use Rattle.solution_text.specs.declared.line_fault.LineFault.TheVariants.{Bad, Memory as NoMemory}
 use Rattle.solution_text.specs.Item.{Said}

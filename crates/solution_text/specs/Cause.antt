@@ -8,7 +8,7 @@ use Rattle.pair_structure.specs.StructureFault.{IsFirstStructureFault}
 use Rattle.ctl_form.specs.declared.pair_spec.PairSpec.{PairSpec}
 use Rattle.ctl_text.specs.declared.cause.TextCause.{TextCause}
 use Rattle.ctl_text.specs.declared.cause.TextCause.TheVariants.{NotText, BadHead, BadLine, UnknownName, NotAPair}
-use Rattle.ctl_text.specs.Cause.{UseStands, IsLowest, IsFree}
+use Rattle.ctl_text.specs.Cause.{UseStands, IsFree}
 use Rattle.strict_text.specs.Lines.{Line, IsStrict}
 use Rattle.strict_text.specs.Words.{words_of}
 use Rattle.solution_text.specs.Item.{Said, head_line, kind_line, state_line, end_line, words_for, Says}

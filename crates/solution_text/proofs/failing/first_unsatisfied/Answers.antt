@@ -1,4 +1,4 @@
-use Rattle.std.proofs.Common.{refl, arith}
+use Rattle.std.proofs.Common.{arith}
 use Rattle.solution_text.proofs.Satisfied.{over_count, over_there, all_solve, paired, one_more}
 use Rattle.solution_text.proofs.failing.first_unsatisfied.Goals as goal
 

@@ -1,4 +1,3 @@
-use Rattle.std.proofs.Common.{ap, ◌∙◌, ◌∷◌}
 use Rattle.solution_text.proofs.ItemLaws.{fifth_word}
 use Rattle.solution_text.proofs.item.said_by.Goals as goal
 

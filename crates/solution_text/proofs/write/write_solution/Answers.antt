@@ -1,4 +1,3 @@
-use Rattle.std.proofs.Common.{refl}
 use Rattle.solution_text.proofs.Satisfied.{over_count}
 use Rattle.solution_text.proofs.Written.{written_is_text}
 use Rattle.solution_text.proofs.write.write_solution.Goals as goal
