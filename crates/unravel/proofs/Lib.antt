@@ -1,0 +1,6 @@
+pub mod BestLaws
+pub mod Nodes
+pub mod Plans
+pub mod Pursuits
+pub mod Stepping
+pub mod TargetLaws

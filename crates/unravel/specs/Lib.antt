@@ -1,0 +1,4 @@
+pub mod Alive
+pub mod Choice
+pub mod Pursuit
+pub mod Targets
