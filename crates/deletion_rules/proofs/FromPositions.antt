@@ -1,5 +1,5 @@
 -- Positions with moves between them that are steps of an unravelling make a structure over the roles.
-use Rattle.std.proofs.Common.{ℕ, ◌≡◌, ◌⊎◌, ◌<◌, ◌≤◌, inl, inr, Bool, Option, Some, List, Contains, length, map, subst, arith, ◌∙◌, ap, slice_get, slice_index_or}
+use Rattle.std.proofs.Common.{ℕ, ◌≡◌, ◌⊎◌, ◌<◌, ◌≤◌, inl, inr, Bool, false, Option, Some, List, Contains, length, map, subst, arith, ◌∙◌, ap, slice_get, slice_index_or}
 use Rattle.std.proofs.lemmas.List.Elements.{Contains-get_or}
 use Rattle.std.proofs.lemmas.List.{get_or-map, length-map}
 use Rattle.std.proofs.lemmas.Option.{slice_get-get_or}
