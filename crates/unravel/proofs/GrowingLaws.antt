@@ -85,11 +85,14 @@ module _ (r : RankParts) (targets : List Target) where
 
         -- the step of an older member stays
         older : (t j k : ℕ) (side' : Side) → t < length before → IsExpanded s i t j → IsSomeNext r.tableau.closure (graph_of r.tableau) (position_at before t).node j side' k → (x : ℕ) × HasStepFor r targets after (moves ++ record { from = s; side = side; to = n } ∷ []) t j side' x
-        older t j k side' tl done some' = let u = grown.goes t j k side' tl done some' in (u.0, record {
-          to = (let a = u.1.to in let b = l.long in omega (arith, a, b));
-          move = Contains-append_left moves (record { from = s; side = side; to = n } ∷ []) (record { from = t; side = side'; to = u.0 }) u.1.move;
-          step = subst (λ p. IsStep r.tableau.closure (graph_of r.tableau) (plan_of r targets) p j (position_at after u.0)) (sym (l.kept t tl)) (subst (λ x. IsStep r.tableau.closure (graph_of r.tableau) (plan_of r targets) (position_at before t) j x) (sym (l.kept u.0 u.1.to)) u.1.step);
-        })
+        older t j k side' tl done some' = let u = grown.goes t j k side' tl done some' in (
+          u.0,
+          record {
+            to = (let a = u.1.to in let b = l.long in omega (arith, a, b));
+            move = Contains-append_left moves (record { from = s; side = side; to = n } ∷ []) (record { from = t; side = side'; to = u.0 }) u.1.move;
+            step = subst (λ p. IsStep r.tableau.closure (graph_of r.tableau) (plan_of r targets) p j (position_at after u.0)) (sym (l.kept t tl)) (subst (λ x. IsStep r.tableau.closure (graph_of r.tableau) (plan_of r targets) (position_at before t) j x) (sym (l.kept u.0 u.1.to)) u.1.step);
+          },
+        )
 
         -- the new step is of the member that was to be expanded
         newer : (k : ℕ) (side' : Side) → IsSomeNext r.tableau.closure (graph_of r.tableau) (position_at before s).node i side' k → HasStepFor r targets after (moves ++ record { from = s; side = side; to = n } ∷ []) s i side' n
@@ -118,7 +121,10 @@ module _ (r : RankParts) (targets : List Target) where
     -- a member that is no EXs h has no step
     pub grown_skip : ((side : Side) (h : ℕ) → IsSomeNext r.tableau.closure (graph_of r.tableau) (position_at before s).node i side h → ⊥) → IsGrown r targets s (i + 1) before moves
     grown_skip none = record {
-      some = grown.some; first = grown.first; good = grown.good; steps = grown.steps;
+      some = grown.some;
+      first = grown.first;
+      good = grown.good;
+      steps = grown.steps;
       goes = λ t j h side tl done some. elim done [
         | inl b ↦ grown.goes t j h side tl (inl b) some
         | inr u ↦ elim (dec_lt j i) [
@@ -131,7 +137,10 @@ module _ (r : RankParts) (targets : List Target) where
   -- once all members are expanded, the next state's turn comes
   pub grown_next : (s : ℕ) (ps : List Position) (moves : List Move) → IsGrown r targets s (count r.tableau.closure) ps moves → IsGrown r targets (s + 1) 0 ps moves
   grown_next s ps moves grown = record {
-    some = grown.some; first = grown.first; good = grown.good; steps = grown.steps;
+    some = grown.some;
+    first = grown.first;
+    good = grown.good;
+    steps = grown.steps;
     goes = λ t j h side tl done some. elim done [
       | inl b ↦ elim (dec_lt t s) [
         | yes less ↦ grown.goes t j h side tl (inl less) some

@@ -1,4 +1,5 @@
 pub mod BestLaws
+pub mod GrowingLaws
 pub mod Nodes
 pub mod Plans
 pub mod Pursuits

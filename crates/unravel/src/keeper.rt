@@ -11,8 +11,8 @@ ghost use Rattle.unravel.specs.Targets.{IsTarget};
 
 use crate::child::children;
 use crate::successor::next_or;
-use crate::target::Target;
 use crate::tableau::tableau_of;
+use crate::target::Target;
 use deletion_rules::Ranks;
 use pair_structure::Side;
 

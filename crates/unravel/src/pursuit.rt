@@ -7,9 +7,9 @@ ghost use Rattle.unravel.specs.Targets.{IsTarget, pends};
 ghost use Rattle.tableau_graph.specs.Graph.{graph_of};
 
 use crate::keeper::kept_or;
+use crate::tableau::tableau_of;
 use crate::target::Target;
 use crate::turns::pends;
-use crate::tableau::tableau_of;
 use deletion_rules::{Position, Ranks};
 
 /// How a position's target is pursued: through each successor, along one OR node, or not at all, where it does not pend.

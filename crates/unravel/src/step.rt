@@ -1,4 +1,4 @@
-ghost use Rattle.std.specs.Prelude.{◌≡◌, ◌<◌, ℕ, true, cond, length};
+ghost use Rattle.std.specs.Prelude.{◌≡◌, ◌<◌, ℕ, ◌&&◌, true, cond, length};
 ghost use Rattle.pair_structure.specs.declared.side.Side.{Side};
 ghost use Rattle.tableau_graph.specs.Graph.{graph_of, IsSomeNext};
 ghost use Rattle.deletion_rules.specs.Deletion.{LivesOr};
@@ -9,9 +9,9 @@ ghost use Rattle.unravel.specs.Targets.{pends_at, places};
 
 use crate::child::best_child;
 use crate::pursuit::{Pursuit, goal_of, is_pursued, pends_at_node};
+use crate::tableau::tableau_of;
 use crate::target::Target;
 use crate::turns::next_place;
-use crate::tableau::tableau_of;
 use deletion_rules::{Position, Ranks};
 
 /// Where the move through this OR node leads from a position: the child of lowest rank, with the target that stays or comes next.
@@ -34,10 +34,17 @@ pub(crate) fn step(
     let next = place_behind(ranks, targets, node, p.place);
     let pursued = is_pursued(pursuit, or);
     let pending = is_pending(ranks, targets, node, p.place);
+    let stays = both(pursued, pending);
     Position {
         node,
-        place: choose(pursued && pending, p.place, next),
+        place: choose(stays, p.place, next),
     }
+}
+
+fn both(x: bool, y: bool) -> bool
+    ensures { result ≡ (x && y) }
+{
+    x && y
 }
 
 fn choose(first: bool, x: u64, y: u64) -> u64
