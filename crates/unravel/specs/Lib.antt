@@ -1,0 +1,5 @@
+pub mod Alive
+pub mod Choice
+pub mod Growing
+pub mod Pursuit
+pub mod Targets

@@ -1,0 +1,11 @@
+//! Pair structures unravelled from what the rules of deletion leave of a tableau, and synthesis.
+#![tactic(auto)]
+
+mod child;
+mod keeper;
+mod pursuit;
+mod step;
+mod successor;
+mod tableau;
+mod target;
+mod turns;
