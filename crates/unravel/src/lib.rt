@@ -6,6 +6,9 @@ mod keeper;
 mod pursuit;
 mod step;
 mod successor;
+mod synthesis;
 mod tableau;
 mod target;
 mod turns;
+
+pub use synthesis::{Outcome, synthesize};
