@@ -3,7 +3,7 @@ ghost use Rattle.closure_sets.specs.Row.{set_of};
 ghost use Rattle.tableau_graph.specs.Growing.{AreEnds, AreNodesAt, IsEnd, and_with, arcs_of};
 ghost use Rattle.tableau_graph.specs.Rules.{LeadsTo};
 
-use crate::push_some::push_some;
+use crate::pushing::push_some;
 use crate::{AndNode, OrNode};
 use closure_sets::{Closure, Row, full_rows};
 use pair_structure::{LocalArc, Memory, Role, Side};

@@ -7,7 +7,8 @@ mod laws;
 mod node_order;
 mod node_table;
 mod nodes;
-mod push_some;
+mod pushing;
+mod some_next;
 mod successors;
 mod tableau;
 #[cfg(test)]
@@ -17,5 +18,8 @@ pub use laws::{
     tableau_covers, tableau_follows_arcs, tableau_has_children, tableau_is_graph,
     tableau_root_covers, tableau_starts,
 };
+pub use node_table::{Node, NodeTable};
 pub use nodes::{AndNode, OrNode};
+pub use pushing::push_some;
+pub use some_next::is_some_next;
 pub use tableau::Tableau;

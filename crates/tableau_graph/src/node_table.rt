@@ -8,7 +8,7 @@ use std::collections::BTreeMap;
 use std::marker::Model;
 
 /// Nodes that are equal where their order says so.
-pub(crate) trait Node: Ord + Copy + Drop {
+pub trait Node: Ord + Copy + Drop {
     ghost use Rattle.std.proofs.lemmas.Map.Lookups.{CmpEqualImpliesEq};
 
     ghost exact: { CmpEqualImpliesEq Self.cmp };
@@ -16,7 +16,7 @@ pub(crate) trait Node: Ord + Copy + Drop {
 
 /// Nodes in the order of their numbers, and their numbers by the nodes. Contracts see the nodes.
 #[derive(Drop)]
-pub(crate) struct NodeTable<N: Node> {
+pub struct NodeTable<N: Node> {
     nodes: Vec<N>,
     numbers: BTreeMap<N, u64>,
 }
@@ -33,7 +33,7 @@ impl<N: Node> Model for NodeTable<N> {
 }
 
 impl<N: Node> NodeTable<N> {
-    pub(crate) fn new(alloc: Global) -> NodeTable<N>
+    pub fn new(alloc: Global) -> NodeTable<N>
         ensures { result ≡ [] }
     {
         NodeTable {
@@ -42,14 +42,14 @@ impl<N: Node> NodeTable<N> {
         }
     }
 
-    pub(crate) fn nodes(&self) -> &[N]
+    pub fn nodes(&self) -> &[N]
         ensures same { result.now ≡ self.now }
         ensures apart { AreApart self.now }
     {
         &self.nodes
     }
 
-    pub(crate) fn into_nodes(self) -> Vec<N>
+    pub fn into_nodes(self) -> Vec<N>
         ensures same { result.items ≡ self }
         ensures apart { AreApart self }
     {
@@ -57,7 +57,7 @@ impl<N: Node> NodeTable<N> {
     }
 
     /// The number of the node, which gets the next one if it has none. One look-up in the map, and a second for a new node.
-    pub(crate) fn number(&mut self, node: N) -> Result<u64, Memory>
+    pub fn number(&mut self, node: N) -> Result<u64, Memory>
         ensures { IfOk result (λ n. IsNumber self.old node self.new n) }
     {
         if let Some(n) = self.find(node) {
@@ -93,7 +93,7 @@ impl<N: Node> NodeTable<N> {
     }
 
     /// The numbers of these nodes, in their order.
-    pub(crate) fn number_each(&mut self, alloc: Global, nodes: &[N]) -> Result<Vec<u64>, Memory>
+    pub fn number_each(&mut self, alloc: Global, nodes: &[N]) -> Result<Vec<u64>, Memory>
         ensures { IfOk result (λ numbers. AreNumbers self.old nodes.now self.new numbers.items) }
     {
         let mut numbers = Vec::with_capacity(alloc, nodes.len())?;

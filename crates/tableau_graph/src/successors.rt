@@ -7,7 +7,7 @@ ghost use Rattle.closure_sets.specs.Row.{add, set_of};
 ghost use Rattle.tableau_graph.specs.Growing.{AreNextNodes, IsCarriedBelow, IsCarriedTo, IsNextNode};
 ghost use Rattle.pair_structure.specs.declared.side.Side.TheVariants.{A, B};
 
-use crate::push_some::push_some;
+use crate::pushing::push_some;
 use crate::{AndNode, OrNode};
 use closure_sets::{Closure, Row};
 use ctl_form::Part;
