@@ -1,6 +1,6 @@
 -- What has grown stays so with each step.
-use Rattle.std.proofs.Common.{ℕ, zero, suc, ◌≡◌, ◌⊎◌, ◌<◌, ◌≤◌, ◌+◌, inl, inr, Bool, false, Option, Some, None, List, [], ◌∷◌, ◌++◌, length, Contains, refl, subst, sym, arith, ◌∙◌, ap, slice_get, slice_index_or}
-use Rattle.std.proofs.Math.Decide.{dec_lt, ℕ_discrete}
+use Rattle.std.proofs.Common.{ℕ, zero, suc, ◌≡◌, ◌<◌, ◌≤◌, ◌+◌, inl, inr, false, List, [], ◌∷◌, ◌++◌, length, Contains, refl, subst, sym, arith, ◌∙◌, ap}
+use Rattle.std.proofs.Math.Decide.{dec_lt}
 use Rattle.std.proofs.lemmas.List.{get_or_append_left, length-append}
 use Rattle.std.proofs.lemmas.List.Elements.{Contains-append_left, Contains-push, Contains-push_cases}
 use Rattle.std.proofs.lemmas.Option.{slice_get_within, get_or_from_slice_get}

@@ -1,8 +1,8 @@
 -- Edges of a tableau lead to its nodes.
-use Rattle.std.proofs.Common.{ℕ, ◌≡◌, ◌<◌, ◌≤◌, Bool, true, false, length, slice_index, arith}
+use Rattle.std.proofs.Common.{ℕ, ◌≡◌, ◌<◌, Bool, false, length, slice_index, arith}
 use Rattle.std.proofs.lemmas.List.Elements.{Contains-get_or}
 use Rattle.pair_structure.specs.declared.side.Side.{Side}
-use Rattle.ctl_form.specs.declared.part.Part.TheVariants.{Until, Next}
+use Rattle.ctl_form.specs.declared.part.Part.TheVariants.{Until}
 use Rattle.closure_sets.specs.ClosureParts.{after, count}
 use Rattle.closure_sets.specs.Full.{Has}
 use Rattle.closure_sets.specs.Label.{part_of}

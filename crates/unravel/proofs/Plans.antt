@@ -1,23 +1,19 @@
 -- The plan that the code follows is one of the kept set.
-use Rattle.std.proofs.Common.{ℕ, ◌≡◌, ◌⊎◌, ◌<◌, ◌&&◌, inl, inr, Bool, true, false, cond, Option, Some, None, List, Contains, All, Any, length, map, refl, subst, sym, arith, ◌∙◌, ap, nat_lt, slice_index_or, get_or}
-use Rattle.std.specs.List.{list_any}
-use Rattle.std.proofs.lemmas.List.{get_or-map, length-map, get_or_past}
+use Rattle.std.proofs.Common.{ℕ, ◌≡◌, ◌<◌, ◌&&◌, inl, inr, Bool, true, false, cond, Option, Some, None, List, length, map, refl, subst, sym, arith, ◌∙◌, ap, slice_index_or}
+use Rattle.std.proofs.lemmas.List.{get_or-map, length-map}
 use Rattle.std.proofs.lemmas.List.Folds.{Any-from_list_any, list_any-from_Any}
 use Rattle.pair_structure.specs.declared.side.Side.{Side}
 use Rattle.pair_structure.specs.declared.side.Side.TheVariants.{A, B}
-use Rattle.ctl_form.specs.declared.part.Part.TheVariants.{Until}
-use Rattle.closure_sets.specs.ClosureParts.{ClosureParts, after, count}
+use Rattle.closure_sets.specs.ClosureParts.{after, count}
 use Rattle.closure_sets.specs.Full.{Has}
-use Rattle.closure_sets.specs.Label.{part_of}
 use Rattle.tableau_graph.specs.Graph.{graph_of}
 use Rattle.deletion_rules.specs.Deletion.{HasLower, Falls}
 use Rattle.deletion_rules.specs.Picking.{IsPlan, or_zero}
 use Rattle.deletion_rules.specs.Pruned.{RankParts, lives_at, rank_at}
 use Rattle.unravel.specs.Alive.{IsAlive}
-use Rattle.deletion_rules.specs.Unravel.{HasTargets, IsPending, row_at, target, target_at}
-use Rattle.deletion_rules.specs.declared.position.Position.{Position}
+use Rattle.deletion_rules.specs.Unravel.{HasTargets, IsPending}
 use Rattle.unravel.specs.Choice.{falls_by, has_lower, is_below, is_lower_at, keep_of, member_of, plan_of}
-use Rattle.unravel.specs.Targets.{AreTargets, IsTarget, HasTarget, no_target, target_in}
+use Rattle.unravel.specs.Targets.{AreTargets, no_target, target_in}
 use Rattle.unravel.specs.declared.target.Target.{Target}
 
 both_true : (a b : Bool) → a && b ≡ true → (a ≡ true) × (b ≡ true)

@@ -1,5 +1,5 @@
 -- Which targets pend in a row, by the test.
-use Rattle.std.proofs.Common.{ℕ, ◌≡◌, ◌⊎◌, ◌<◌, ◌≤◌, ◌&&◌, inl, inr, Bool, true, false, not, List, All, length, map, refl, subst, sym, arith, ◌∙◌, ap, slice_index_or}
+use Rattle.std.proofs.Common.{ℕ, ◌≡◌, ◌<◌, ◌≤◌, ◌&&◌, Bool, true, false, not, List, length, map, refl, subst, sym, arith, ◌∙◌, slice_index_or}
 use Rattle.std.proofs.lemmas.List.{get_or-map, length-map, get_or_past}
 use Rattle.ctl_form.specs.Members.{IsBelow}
 use Rattle.ctl_form.specs.declared.part.Part.{Part}

@@ -1,5 +1,5 @@
 -- The step that the code picks is one of the unravelling.
-use Rattle.std.proofs.Common.{ℕ, ◌≡◌, ◌⊎◌, ◌<◌, ◌≤◌, ◌==◌, ◌&&◌, inl, inr, Bool, true, false, cond, List, Contains, length, map, max, refl, subst, sym, arith, ◌∙◌, ap, eqb-true, eq-eqb}
+use Rattle.std.proofs.Common.{ℕ, ◌≡◌, ◌<◌, ◌≤◌, ◌==◌, ◌&&◌, inl, inr, Bool, true, false, cond, List, length, map, refl, sym, arith, ◌∙◌, eqb-true, eq-eqb}
 use Rattle.std.proofs.Math.Decide.{dec_lt}
 use Rattle.std.proofs.lemmas.List.{length-map}
 use Rattle.pair_structure.specs.declared.side.Side.{Side}

@@ -1,5 +1,5 @@
 -- The targets of one more member.
-use Rattle.std.proofs.Common.{ℕ, zero, suc, ◌≡◌, ◌⊎◌, ◌<◌, ◌≤◌, ◌+◌, inl, inr, Bool, false, Option, Some, None, List, [], ◌∷◌, ◌++◌, length, All, subst, sym, arith, ◌∙◌, ap, refl, slice_index_or}
+use Rattle.std.proofs.Common.{ℕ, zero, suc, ◌≡◌, ◌<◌, ◌+◌, false, Option, Some, None, List, [], ◌∷◌, ◌++◌, length, All, subst, sym, arith, ◌∙◌, ap}
 use Rattle.std.specs.Option.{option_to_list}
 use Rattle.std.proofs.Math.Decide.{dec_lt}
 use Rattle.std.proofs.lemmas.List.{get_or_append_left, length-append}
@@ -9,7 +9,7 @@ use Rattle.ctl_form.specs.Members.{IsBelow}
 use Rattle.ctl_form.specs.declared.part.Part.TheVariants.{Until}
 use Rattle.closure_sets.specs.ClosureParts.{ClosureParts, IsClosureParts, count}
 use Rattle.closure_sets.specs.Label.{part_of}
-use Rattle.unravel.specs.Targets.{AreTargets, HasTarget, IsTarget, IsTargetOf, no_target, target_in}
+use Rattle.unravel.specs.Targets.{AreTargets, HasTarget, IsTarget, IsTargetOf, no_target}
 use Rattle.unravel.specs.declared.target.Target.{Target}
 
 is_target : (c : ClosureParts) → IsClosureParts c → (n : ℕ) → n < count c → (t : Target) → IsTargetOf (part_of c n) n (Some t) → IsTarget c t

@@ -1,16 +1,15 @@
 -- What the code computes of ranks: the child that it picks, and the member through which an E target goes on.
-use Rattle.std.specs.Prelude.{ℕ, ◌≡◌, ◌<◌, ◌&&◌, Bool, true, false, cond, Option, Some, None, List, [], ◌∷◌, map, nat_lt, slice_index_or}
+use Rattle.std.specs.Prelude.{ℕ, ◌&&◌, Bool, true, false, cond, Option, Some, None, List, [], ◌∷◌, map, nat_lt, slice_index_or}
 use Rattle.std.specs.List.{list_any}
 use Rattle.pair_structure.specs.declared.side.Side.{Side}
 use Rattle.pair_structure.specs.declared.side.Side.TheVariants.{A, B}
 use Rattle.closure_sets.specs.ClosureParts.{after}
-use Rattle.tableau_graph.specs.Graph.{Graph, graph_of}
+use Rattle.tableau_graph.specs.Graph.{graph_of}
 use Rattle.tableau_graph.specs.TableauParts.{edges_at}
 use Rattle.deletion_rules.specs.Picking.{or_zero}
 use Rattle.deletion_rules.specs.Pruned.{RankParts, lives_at, rank_at}
 use Rattle.deletion_rules.specs.Unravel.{Plan}
 use Rattle.deletion_rules.specs.declared.position.Position.{Position}
-use Rattle.unravel.specs.Targets.{target_in}
 use Rattle.unravel.specs.declared.target.Target.{Target}
 
 -- a rank that is there and below the other one, or alone there

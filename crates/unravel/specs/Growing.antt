@@ -1,16 +1,19 @@
 -- How the positions and moves of an unravelling grow: states in the order of their numbers, and of each state the members in theirs.
-use Rattle.std.specs.Prelude.{ℕ, ◌≡◌, ◌⊎◌, ◌<◌, ◌^◌, ◌-◌, Option, Some, None, List, length, Contains, slice_index_or}
+use Rattle.std.specs.Prelude.{ℕ, ◌≡◌, ◌⊎◌, ◌<◌, ◌≤◌, ◌++◌, ◌∷◌, [], false, Option, Some, None, List, length, map, Contains, slice_get, slice_index_or}
 use Rattle.pair_structure.specs.declared.side.Move.{Move}
 use Rattle.pair_structure.specs.declared.side.Side.{Side}
 use Rattle.ctl_form.specs.declared.part.Part.{Part}
 use Rattle.ctl_form.specs.declared.part.Part.TheVariants.{Next}
-use Rattle.closure_sets.specs.Label.{part_of}
 use Rattle.tableau_graph.specs.Graph.{IsSomeNext, graph_of}
+use Rattle.tableau_graph.specs.NodeTable.{IsNumber}
+use Rattle.tableau_graph.specs.TableauParts.{TableauParts, somes_below}
 use Rattle.deletion_rules.specs.Pruned.{RankParts}
 use Rattle.deletion_rules.specs.Unravel.{IsStep}
 use Rattle.deletion_rules.specs.declared.position.Position.{Position}
 use Rattle.unravel.specs.Choice.{plan_of}
 use Rattle.unravel.specs.Pursuit.{IsGoodFor}
+use Rattle.unravel.specs.declared.growing.Growing.{Growing}
+use Rattle.unravel.specs.declared.growing.Turn.{Turn}
 use Rattle.unravel.specs.declared.target.Target.{Target}
 
 abbrev pub nowhere : Position
@@ -52,3 +55,27 @@ pub record IsGrown (r : RankParts) (targets : List Target) (s i : ℕ) (position
 abbrev pub IsSideOf : RankParts → ℕ → ℕ → Option Side → Type 0
 IsSideOf r n i (Some side) = (h : ℕ) × IsSomeNext r.tableau.closure (graph_of r.tableau) n i side h
 IsSideOf r n i None = (side : Side) (h : ℕ) → IsSomeNext r.tableau.closure (graph_of r.tableau) n i side h → ⊥
+
+-- the side of a part, where it is some EXs h
+abbrev pub IsSideIn : Part → Option Side → Type 0
+IsSideIn part (Some side) = (h : ℕ) × (part ≡ Next false side h)
+IsSideIn part None = (side : Side) (h : ℕ) → part ≡ Next false side h → ⊥
+
+-- the state has its position, its members below i are expanded, and 'place' of them are some EXs h of the row
+pub record IsTurn (r : RankParts) (targets : List Target) (turn : Turn) (i place : ℕ) (positions : List Position) (moves : List Move) : Type 0 where
+  pub at : slice_get positions turn.state ≡ Some turn.position
+  pub grown : IsGrown r targets turn.state i positions moves
+  pub counts : place ≡ somes_below r.tableau.closure ((graph_of r.tableau).row turn.position.node) i
+  pub few : place ≤ i
+
+-- one move more, to the position of this number
+pub record IsMoved (before after : Growing) (from : ℕ) (side : Side) (position : Position) (to : ℕ) : Type 0 where
+  pub number : IsNumber before.positions position after.positions to
+  pub moves : after.moves.items ≡ before.moves.items ++ record { from = from; side = side; to = to } ∷ []
+
+-- the labels of positions
+abbrev pub label_of : TableauParts → Position → ℕ × ℕ
+label_of t p = (graph_of t).label p.node
+
+abbrev pub labels_of : TableauParts → List Position → List (ℕ × ℕ)
+labels_of t positions = map (label_of t) positions

@@ -1,10 +1,9 @@
 -- How a position's target is pursued, and what a step gives.
-use Rattle.std.specs.Prelude.{ℕ, ◌≡◌, ◌==◌, Bool, true, false, List, length}
+use Rattle.std.specs.Prelude.{ℕ, ◌≡◌, ◌==◌, Bool, true, false, List}
 use Rattle.closure_sets.specs.ClosureParts.{count}
 use Rattle.tableau_graph.specs.Graph.{graph_of}
 use Rattle.deletion_rules.specs.Picking.{IsGood}
 use Rattle.deletion_rules.specs.Pruned.{RankParts, lives_at}
-use Rattle.unravel.specs.Alive.{IsAlive}
 use Rattle.deletion_rules.specs.Unravel.{IsPending, IsStep, target}
 use Rattle.deletion_rules.specs.declared.position.Position.{Position}
 use Rattle.unravel.specs.Choice.{keep_of, plan_of}

@@ -1,5 +1,5 @@
 -- The strong untils that take turns, and what pends of them.
-use Rattle.std.specs.Prelude.{ℕ, ◌≡◌, ◌<◌, ◌≤◌, ◌&&◌, ◌⊎◌, Bool, true, false, not, Option, Some, None, List, length, map, max, All, slice_index_or}
+use Rattle.std.specs.Prelude.{ℕ, ◌≡◌, ◌<◌, ◌≤◌, ◌&&◌, Bool, true, false, not, Option, Some, None, List, length, max, All, slice_index_or}
 use Rattle.ctl_form.specs.declared.part.Part.{Part}
 use Rattle.ctl_form.specs.declared.part.Part.TheVariants.{Until}
 use Rattle.closure_sets.specs.ClosureParts.{ClosureParts, count}

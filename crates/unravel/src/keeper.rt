@@ -10,7 +10,6 @@ ghost use Rattle.unravel.specs.Choice.{falls_by, has_lower, is_below, is_lower_a
 ghost use Rattle.unravel.specs.Targets.{IsTarget};
 
 use crate::child::children;
-use crate::successor::next_or;
 use crate::tableau::tableau_of;
 use crate::target::Target;
 use deletion_rules::Ranks;
@@ -25,7 +24,7 @@ pub(crate) fn kept_or(ranks: &Ranks, and: u64, target: Target) -> u64
 {
     let side = kept_side(ranks, and, target);
     let keep = next_time(ranks, side, target);
-    next_or(tableau_of(ranks), and, keep)
+    tableau_of(ranks).next_or(and, keep)
 }
 
 fn next_time(ranks: &Ranks, side: Side, target: Target) -> u32
@@ -63,11 +62,11 @@ fn falls_by(ranks: &Ranks, and: u64, target: Target, side: Side) -> bool
         return false;
     }
     let rank = ranks.rank(and, target.member).unwrap_or(0);
-    let or = next_or(tableau_of(ranks), and, next);
+    let or = tableau_of(ranks).next_or(and, next);
     has_lower(ranks, or, target.member, rank)
 }
 
-fn has_member(ranks: &Ranks, and: u64, member: u32) -> bool
+pub(crate) fn has_member(ranks: &Ranks, and: u64, member: u32) -> bool
     requires and { and < length ranks.now.tableau.ands }
     requires member { member < 512 }
     ensures { result ≡ (graph_of ranks.now.tableau).row and member }

@@ -2,13 +2,16 @@
 #![tactic(auto)]
 
 mod child;
+mod growing;
 mod keeper;
+mod next_time;
 mod pursuit;
 mod step;
-mod successor;
 mod synthesis;
 mod tableau;
 mod target;
 mod turns;
+mod unravelling;
 
 pub use synthesis::{Outcome, synthesize};
+pub use unravelling::unravelled;

@@ -1,5 +1,4 @@
-ghost use Rattle.std.specs.Prelude.{◌≡◌, ◌++◌, IfOk, OnOk};
-ghost use Rattle.std.specs.Option.{option_to_list};
+ghost use Rattle.std.specs.Prelude.{IfOk};
 ghost use Rattle.closure_sets.specs.ClosureParts.{count};
 ghost use Rattle.unravel.specs.Targets.{AreTargets, IsTargetOf};
 
@@ -7,6 +6,7 @@ use closure_sets::Closure;
 use ctl_form::Part;
 use pair_structure::Memory;
 use std::alloc::Global;
+use tableau_graph::push_some;
 
 /// A strong until of a closure: whether it is one of all paths, its member number, and that of its second part.
 #[derive(Clone, Copy, Debug, PartialEq, Eq)]
@@ -23,18 +23,9 @@ pub(crate) fn targets_of(alloc: Global, c: &Closure) -> Result<Vec<Target>, Memo
     let mut targets = Vec::new(alloc);
     let _closure = c.count();
     for member in 0..c.count() {
-        push_target(&mut targets, target_of(c.part(member), member))?;
+        push_some(&mut targets, target_of(c.part(member), member))?;
     }
     Ok(targets)
-}
-
-fn push_target(targets: &mut Vec<Target>, target: Option<Target>) -> Result<(), Memory>
-    ensures { OnOk result (targets.new.items ≡ targets.old.items ++ option_to_list target) }
-{
-    if let Some(target) = target {
-        targets.push(target)?;
-    }
-    Ok(())
 }
 
 fn target_of(part: Part, member: u32) -> Option<Target>

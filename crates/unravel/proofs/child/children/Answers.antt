@@ -1,4 +1,4 @@
-use Rattle.std.proofs.Common.{ℕ, ◌≡◌, ◌<◌, List, length, slice_index, subst, sym, ap, ◌∙◌}
+use Rattle.std.proofs.Common.{ℕ, ◌<◌, List, length, slice_index, subst, sym, ap, ◌∙◌}
 use Rattle.tableau_graph.specs.TableauParts.{edges_at}
 use Rattle.unravel.proofs.Nodes.{child_within}
 use Rattle.unravel.proofs.child.children.Goals as goal

@@ -1,4 +1,4 @@
-use Rattle.std.proofs.Common.{◌≡◌, ◌<◌, Bool, false, true, length, subst, sym, ap, ◌∙◌}
+use Rattle.std.proofs.Common.{◌≡◌, ◌<◌, false, true, length, subst, sym, ap, ◌∙◌}
 use Rattle.ctl_form.specs.declared.part.Part.TheVariants.{Until}
 use Rattle.closure_sets.specs.ClosureParts.{after}
 use Rattle.closure_sets.specs.Full.{Has}

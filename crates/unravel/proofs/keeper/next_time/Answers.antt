@@ -1,4 +1,4 @@
-use Rattle.std.proofs.Common.{◌≡◌, ◌<◌, ◌≤◌, false, length, arith, subst, sym, ap, ◌∙◌}
+use Rattle.std.proofs.Common.{◌≡◌, ◌<◌, ◌≤◌, false, arith, subst, sym, ap, ◌∙◌}
 use Rattle.closure_sets.specs.ClosureParts.{after, count}
 use Rattle.unravel.proofs.Nodes.{after_small}
 use Rattle.unravel.proofs.keeper.next_time.Goals as goal

@@ -1,6 +1,6 @@
-use Rattle.std.proofs.Common.{◌≡◌, subst, sym}
+use Rattle.std.proofs.Common.{subst, sym}
 use Rattle.unravel.specs.Pursuit.{IsPursuitBy}
-use Rattle.unravel.proofs.Pursuits.{goal_is, none_past}
+use Rattle.unravel.proofs.Pursuits.{goal_is}
 use Rattle.unravel.proofs.pursuit.pursuit_of.Goals as goal
 
 pub pursuit_by-requires-clause-and : goal.pursuit_by-requires-clause-and

@@ -1,5 +1,4 @@
-use Rattle.std.proofs.Common.{◌≡◌, ◌&&◌, cond, ap, subst, sym, ◌∙◌}
-use Rattle.tableau_graph.specs.Graph.{graph_of}
+use Rattle.std.proofs.Common.{◌&&◌, cond, ap, subst, sym, ◌∙◌}
 use Rattle.tableau_graph.specs.TableauParts.{edges_at}
 use Rattle.deletion_rules.specs.Picking.{IsBest}
 use Rattle.deletion_rules.specs.Pruned.{lives_at, rank_at}
