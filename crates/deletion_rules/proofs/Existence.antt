@@ -22,6 +22,7 @@ use Rattle.tableau_graph.specs.Graph.{Graph, IsGraph, IsSomeNext, FollowArcs}
 use Rattle.deletion_rules.specs.Deletion.{IsKept}
 use Rattle.deletion_rules.specs.Unravel.{Plan, IsStep, IsUnravelled, row_at}
 use Rattle.deletion_rules.specs.declared.position.Position.{Position}
+use Rattle.deletion_rules.proofs.FromPositions.{Leads, unravelled_of, over_of}
 use Rattle.deletion_rules.proofs.MoveList.{moves_below, moves_are, moves_have, moves_rise}
 use Rattle.deletion_rules.proofs.Pending.{decided_has}
 use Rattle.deletion_rules.specs.Picking.{IsGood, IsPlan}
@@ -169,9 +170,6 @@ module _ (a b : RoleParts) (ra : IsRole a) (rb : IsRole b) (c : ClosureParts) (k
     abbrev pub whole : Structure
     whole = record { states = map (λ (p : Position). g.label p.node) all; moves = moves_below linked (length all) (length all) }
 
-    long : length whole.states ≡ length all
-    long = length-map all (λ (p : Position). g.label p.node)
-
     some_members : 0 < size
     some_members = omega (arith, k.moves.1, length-range_with_len 0 (count c))
 
@@ -184,71 +182,35 @@ module _ (a b : RoleParts) (ra : IsRole a) (rb : IsRole b) (c : ClosureParts) (k
       | inr y ↦ (let u = positions_are Within decided_within size g.ands p y in good_of p u.0 u.1)
     ]
 
-    at_good : (s : ℕ) → s < length whole.states → Good (at s)
-    at_good s lt = all_good (at s) (Contains-get_or all s first (omega (arith, lt, long)))
+    pub at_good : (s : ℕ) → s < length all → Good (at s)
+    at_good s lt = all_good (at s) (Contains-get_or all s first lt)
 
     -- a good position is some state's
     state_of : (q : Position) → Good q → (t : ℕ) × (t < length all) × (at t ≡ q)
     state_of q good = let u = Contains-append_right (first ∷ []) (positions_below Within decided_within size g.ands) q (positions_have Within decided_within size g.ands q.node q.place (kept.nodes q.node good.living) (good.living, good.label) good.place) in (u.0, u.1, get_or_default all u.0 first q u.1 ∙ u.2)
 
-    label_read : (s : ℕ) → s < length all → label_at whole.states s ≡ g.label (at s).node
-    label_read s lt = get_or-map (λ (p : Position). g.label p.node) all s first (0, 0) lt
-
-    move_link : (side : Side) (s t : ℕ) → HasMove whole side s t → (s < length all) × (t < length all) × Linked (at s) side (at t)
+    pub links : (x : Move) → Contains whole.moves x → (x.from < length all) × (x.to < length all) × Leads c g plan (at x.from) x.side (at x.to)
     unfolding linked
-    move_link side s t h = let u = moves_are linked (length all) (length all) (record { from = s; side = side; to = t }) h in (u.0, u.1, bool_yes (decided_linked (at s) side (at t)) u.2)
+    links x h =
+        let u = moves_are linked (length all) (length all) x h in
+        let l = bool_yes (decided_linked (at x.from) x.side (at x.to)) u.2 in
+        let v = link_of (at x.from) l.0 (info (at x.from) l.0) x.side (at x.to) l.2 in
+        (u.0, u.1, (l.0, v.0, record { some = v.1.some; step = v.1.step }))
 
-    link_move : (side : Side) (s t : ℕ) → s < length all → t < length all → Linked (at s) side (at t) → HasMove whole side s t
+    pub goes : (s i h : ℕ) (side : Side) → s < length all → IsSomeNext c g (at s).node i side h → (t : ℕ) × (t < length all) × Contains whole.moves (record { from = s; side = side; to = t }) × IsStep c g plan (at s) i (at t)
     unfolding linked
-    link_move side s t ls lt x = moves_have linked (length all) (length all) s t side ls lt (yes_bool (decided_linked (at s) side (at t)) x)
-
-    goes : (s : ℕ) → s < length whole.states → (i h : ℕ) (side : Side) → part_of c i ≡ Next false side h → Has (row_at g (at s)) i → (t : ℕ) × HasMove whole side s t × IsStep c g plan (at s) i (at t)
-    goes s lt i h side part has =
-        let good = at_good s lt in
-        let u = match_of (at s) i (info (at s) i) side h good (record { node = kept.nodes (at s).node good.living; member = has; part = part }) in
-        let small : i < count c = member_of c i (Next false side h) part (λ e. let q : Yes ≡ Next false side h = e in cc) in
+    goes s i h side lt some =
+        let u = match_of (at s) i (info (at s) i) side h (at_good s lt) some in
+        let small : i < count c = member_of c i (Next false side h) some.part (λ e. let q : Yes ≡ Next false side h = e in cc) in
         let v = state_of u.0 u.2 in
-        (v.0, link_move side s v.0 (omega (arith, lt, long)) v.1 (subst (λ q. Linked (at s) side q) (sym v.2) (i, small, u.1)), subst (λ q. IsStep c g plan (at s) i q) (sym v.2) u.3)
+        let l : Linked (at s) side (at v.0) = subst (λ q. Linked (at s) side q) (sym v.2) (i, small, u.1) in
+        (v.0, v.1, moves_have linked (length all) (length all) s v.0 side lt v.1 (yes_bool (decided_linked (at s) side (at v.0)) l), subst (λ q. IsStep c g plan (at s) i q) (sym v.2) u.3)
 
-    steps : (s : ℕ) → s < length whole.states → (side : Side) (t : ℕ) → HasMove whole side s t → (i : ℕ) × (h : ℕ) × (part_of c i ≡ Next false side h) × Has (row_at g (at s)) i × IsStep c g plan (at s) i (at t)
-    steps s lt side t h = let u = move_link side s t h in let v = link_of (at s) u.2.0 (info (at s) u.2.0) side (at t) u.2.2 in (u.2.0, v.0, v.1.some.part, v.1.some.member, v.1.step)
-
-    has_move : (s : ℕ) → s < length whole.states → (side : Side) → Has (row_at g (at s)) (some_move c side) → (t : ℕ) × HasMove whole side s t
-    has_move s lt side has = let n = k.moves.3 side in let u = goes s lt (some_move c side) k.moves.0 side n.1 has in (u.0, u.1)
-
-    goes_on : GoesOn whole
-    goes_on = record {
-      leaves = λ side s t h. (let u = move_link side s t h in omega (arith, u.0, long));
-      within = λ side s t h. (let u = move_link side s t h in omega (arith, u.1, long));
-      onward = λ s lt. elim (ok.full (at s).node (kept.nodes (at s).node (at_good s lt).living)).onward [ inl x ↦ (let u = has_move s lt A x in (u.0, inl u.1)) | inr y ↦ (let u = has_move s lt B y in (u.0, inr u.1)) ];
-    }
+    sized : 0 < length plan.targets → size ≤ length plan.targets
+    sized turns = omega arith
 
     pub unravelled : IsUnravelled c g whole plan at
-    unravelled = record {
-      goes_on = goes_on;
-      targets = has_targets c g lives rank kept;
-      nodes = λ s lt. kept.nodes (at s).node (at_good s lt).living;
-      placed = λ s lt some. (at_good s lt).place;
-      labels = λ s lt. slice_get-get_or whole.states s (0, 0) lt ∙ ap (λ l. Some l) (label_read s (omega (arith, lt, long)));
-      steps = steps;
-      goes = goes;
-      keep = λ s lt x. (let u = planned.keeps (at s) (at_good s lt).living x in (u.0, u.1, u.2));
-    }
-
-    follows : (s t : ℕ) (side : Side) → HasMove whole side s t → Follows a b side (g.label (at s).node) (g.label (at t).node)
-    follows s t side h = let u = move_link side s t h in let v = link_of (at s) u.2.0 (info (at s) u.2.0) side (at t) u.2.2 in arcs (at s).node u.2.0 v.0 (at t).node side v.1.some v.1.step.child
-
-    lawful_move : (x : Move) → Contains whole.moves x → IsLawfulMove a b whole.states x
-    lawful_move x h =
-        let u = move_link x.side x.from x.to h in
-        let f = follows x.from x.to x.side h in
-        record { from = omega (arith, u.0, long); to = omega (arith, u.1, long); arc = rw (label_read x.from u.0, label_read x.to u.1) f.0; stays = rw (label_read x.from u.0, label_read x.to u.1) f.1 }
+    unravelled = unravelled_of a b c k g ok arcs lives rank kept plan planned (has_targets c g lives rank kept) size sized first all whole.moves starts (omega arith) at_good (moves_rise linked (length all) (length all)) links goes
 
     pub over : IsOver a b whole
-    over = record {
-      start = ap (λ l. Some l) starts;
-      labels = λ s d lt. (let lt' : s < length all = omega (arith, lt, long) in rw (get_or-map (λ (p : Position). g.label p.node) all s first d lt') (at_good s lt).label);
-      lawful = λ n d lt. lawful_move (slice_index_or whole.moves n d) (Contains-get_or whole.moves n d lt);
-      rising = moves_rise linked (length all) (length all);
-      goes_on = goes_on;
-    }
+    over = over_of a b c k g ok arcs lives rank kept plan planned (has_targets c g lives rank kept) size sized first all whole.moves starts (omega arith) at_good (moves_rise linked (length all) (length all)) links goes

@@ -2,6 +2,7 @@ pub mod Best
 pub mod Choice
 pub mod Descent
 pub mod Existence
+pub mod FromPositions
 pub mod Kept
 pub mod Left
 pub mod MoveList

@@ -4,6 +4,7 @@ pub mod Marks
 pub mod Met
 pub mod Outcome
 pub mod Picking
+pub mod PositionOrder
 pub mod Pruned
 pub mod Satisfying
 pub mod Stable

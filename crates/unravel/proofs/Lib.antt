@@ -1,0 +1,10 @@
+pub mod BestLaws
+pub mod Expanding
+pub mod GrowingLaws
+pub mod Nodes
+pub mod Plans
+pub mod Pursuits
+pub mod Stepping
+pub mod Synthesized
+pub mod TargetLaws
+pub mod Whole

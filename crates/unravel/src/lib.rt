@@ -1,0 +1,17 @@
+//! Pair structures unravelled from what the rules of deletion leave of a tableau, and synthesis.
+#![tactic(auto)]
+
+mod child;
+mod growing;
+mod keeper;
+mod next_time;
+mod pursuit;
+mod step;
+mod synthesis;
+mod tableau;
+mod target;
+mod turns;
+mod unravelling;
+
+pub use synthesis::{Outcome, synthesize};
+pub use unravelling::unravelled;
