@@ -1,5 +1,5 @@
 #!/usr/bin/env python3
-"""Writes a specification of 16 kinds over roles of 32 local states, with 8 clauses each, as `synth` takes it."""
+"""Writes a specification of 16 kinds over roles of 32 local states, with 8 clauses each."""
 ROLES, LOCALS, KINDS, CLAUSES = 2, 32, 16, 8
 
 def role(name):

@@ -1,6 +1,6 @@
 #!/usr/bin/env python3
 """Writes a specification of 1,048,576 bytes, filled up with comments: `graph` has 1,024 processes and 16,384 edges, `clauses` has
-30,000 copies of one clause. Its clauses are beyond `synth`, which reads it and goes no further."""
+30,000 copies of one clause."""
 import sys
 
 SIZE = 1_048_576

@@ -1,14 +1,3 @@
-pub mod Lists
-pub mod Before
-pub mod Tables
-pub mod Live
-pub mod Pruning
-pub mod Rows
-pub mod Numbers
-pub mod Moved
-pub mod Built
-pub mod AllMoves
-pub mod Meaning
-pub mod Roles
 pub mod Solved
+pub mod Synthesized
 pub mod Taken

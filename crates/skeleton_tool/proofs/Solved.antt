@@ -3,16 +3,11 @@ use Rattle.std.proofs.Common.{ℕ, ◌≡◌, ◌<◌, ◌+◌, zero, suc, List,
 use Rattle.std.proofs.lemmas.List.{take_more, get_or_default, get_or-take, length-take-le}
 use Rattle.pair_structure.specs.Role.{RoleParts}
 use Rattle.pair_structure.specs.Structure.{Structure}
-use Rattle.ctl_form.specs.declared.formula.Formula.{Formula}
 use Rattle.ctl_form.specs.declared.pair_spec.PairSpec.{PairSpec}
-use Rattle.ctl_form.specs.Form.{Form, form_of}
 use Rattle.ctl_form.specs.Kind.{role_at, Satisfies, SatisfiesKind, Solves}
 use Rattle.ctl_text.specs.Value.{kind_at}
 use Rattle.skeleton_tool.specs.Answer.{IsFirstUnsatisfiable}
-use Rattle.skeleton_tool.specs.Proposition.{is_plain}
 use Rattle.solution_text.specs.SolutionText.{AreOver}
-use Rattle.skeleton_tool.proofs.Lists.{All-unmap}
-use Rattle.skeleton_tool.specs.Solving.{IsForEngine}
 
 solves_more : (roles : List RoleParts) (ks : List PairSpec) (ms : List Structure) (k : PairSpec) (m : Structure) → Solves roles ks ms → SatisfiesKind roles k m → Solves roles (ks ++ k ∷ []) (ms ++ m ∷ [])
 solves_more roles [] [] k m s sat = (sat, tt)
@@ -50,14 +45,3 @@ first_unsatisfiable roles kinds i kind ms lt is solves none = record {
     earlier j below = let within : j < length (take i kinds) = rw (length-take-le i kinds (omega (arith, lt))) below in
         let u = has_structure roles (take i kinds) ms j (record { name = []; role_a = 0; role_b = 0; clauses = [] }) solves within in
         (u.0, subst (λ k. SatisfiesKind roles k u.0) (get_or-take i kinds j (record { name = []; role_a = 0; role_b = 0; clauses = [] }) below) u.1)
-
--- a kind's clauses are plain, as formulas
-pub plain_clauses : (roles : List RoleParts) (kind : PairSpec) (forms : List Formula) → map form_of forms ≡ kind.clauses → IsForEngine roles kind → All (λ f. is_plain (form_of f) ≡ true) forms
-plain_clauses roles kind forms is engine = All-unmap (λ (f : Form). is_plain f ≡ true) form_of forms (subst (λ (clauses : List Form). All (λ f. is_plain f ≡ true) clauses) (sym is) engine.plain)
-
--- what is solved of two roles and some formulas is solved of the kind
-pub kind_satisfied : (roles : List RoleParts) (kind : PairSpec) (a b : RoleParts) (clauses : List Form) (m : Structure) → a ≡ role_at roles kind.role_a → b ≡ role_at roles kind.role_b → clauses ≡ kind.clauses → Satisfies a b clauses m → SatisfiesKind roles kind m
-kind_satisfied roles kind a b clauses m is_a is_b is sat = rw (← is_a, ← is_b, ← is) sat
-
-pub kind_unsatisfied : (roles : List RoleParts) (kind : PairSpec) (a b : RoleParts) (clauses : List Form) (m : Structure) → a ≡ role_at roles kind.role_a → b ≡ role_at roles kind.role_b → clauses ≡ kind.clauses → (Satisfies a b clauses m → ⊥) → SatisfiesKind roles kind m → ⊥
-kind_unsatisfied roles kind a b clauses m is_a is_b is none sat = none (rw (is_a, is_b, is) sat)

@@ -13,7 +13,6 @@ use Rattle.skeleton_tool.specs.declared.stop.Stop.{Stop}
 use Rattle.skeleton_tool.specs.declared.stop.Stop.TheVariants.{Answered, Memory}
 use Rattle.skeleton_tool.specs.Answer.{IsSpecRead, NoSolution, AnswersProve, IsSolved}
 use Rattle.skeleton_tool.specs.Command.{Command, synth, prove, asked_files, spec_limit, solution_limit}
-use Rattle.skeleton_tool.specs.Refusal.{ArePlain}
 use Rattle.skeleton_tool.specs.Taking.{Files, ShelfSeen, IsUntaken, StopsAs}
 
 -- a count that rose later rose
@@ -51,9 +50,8 @@ pub stops_later : (files later : Files) (f e g l k m : ℕ) (v : SpecParts) (spe
 stops_later files later f e g l k m v spec sol text stop same read le lo h = stops_here files f e g l k m v spec sol text stop read le lo (rw same at h)
 
 -- the text that was written for structures that solve is the answer
-pub solved_text : (v : SpecParts) (ms sol : List Structure) (old new : List ℕ) → ArePlain v.kinds → Solves v.roles v.kinds ms → sol ≡ ms → old ≡ [] → new ≡ old ++ solution_text v.roles v.kinds sol → IsSolutionText v.roles v.kinds (solution_text v.roles v.kinds sol) sol → IsSolved v.roles v.kinds new
-solved_text v ms sol old new plain solves same empty written text = record {
-  plain = plain;
+pub solved_text : (v : SpecParts) (ms sol : List Structure) (old new : List ℕ) → Solves v.roles v.kinds ms → sol ≡ ms → old ≡ [] → new ≡ old ++ solution_text v.roles v.kinds sol → IsSolutionText v.roles v.kinds (solution_text v.roles v.kinds sol) sol → IsSolved v.roles v.kinds new
+solved_text v ms sol old new solves same empty written text = record {
   structures = ms;
   solves = solves;
   is_text = rw (written, empty, sym same) text;

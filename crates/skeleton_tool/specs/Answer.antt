@@ -15,7 +15,7 @@ use Rattle.skeleton_tool.specs.declared.status.Status.{Status}
 use Rattle.skeleton_tool.specs.declared.status.Status.TheVariants.{Done, Usage, Refused, Unsatisfiable, Fails, ReadFault, WriteFault, OutOfMemory}
 use Rattle.skeleton_tool.specs.Command.{Command, synth, prove, command_of, usage_text, spec_limit, solution_limit}
 use Rattle.skeleton_tool.specs.Status.{code_of}
-use Rattle.skeleton_tool.specs.Refusal.{ArePlain, refused_text, only_always_text}
+use Rattle.skeleton_tool.specs.Refusal.{refused_text}
 use Rattle.skeleton_tool.specs.Taking.{Files, ShelfSeen, IsGiven, IsUntaken}
 
 -- a specification is read of the file: its bytes are a text of this value and of no other
@@ -62,7 +62,6 @@ NoSolution shelf v file status text = IsUntaken shelf (codes "solution") file so
 
 -- the text of structures that solve these kinds
 pub record IsSolved (roles : List RoleParts) (kinds : List PairSpec) (text : List ℕ) : Type 0 where
-  pub plain : ArePlain kinds
   pub structures : List Structure
   pub solves : Solves roles kinds structures
   pub is_text : IsSolutionText roles kinds text structures
@@ -75,21 +74,14 @@ pub record IsFirstUnsatisfiable (roles : List RoleParts) (kinds : List PairSpec)
 
 -- the first kind that no structure satisfies, by name
 pub record IsUnsolvable (roles : List RoleParts) (kinds : List PairSpec) (text : List ℕ) : Type 0 where
-  pub plain : ArePlain kinds
   pub kind : ℕ
   pub first : IsFirstUnsatisfiable roles kinds kind
   pub text_is : text ≡ codes "unsatisfiable " ++ (kind_at kinds kind).name ++ codes "\n"
-
--- not each clause of each kind is AG of a proposition
-pub record IsBeyond (kinds : List PairSpec) (text : List ℕ) : Type 0 where
-  pub not_plain : ArePlain kinds → ⊥
-  pub text_is : text ≡ only_always_text
 
 -- the status and its text are an answer to these roles and kinds
 abbrev pub AnswersKinds : List RoleParts → List PairSpec → Status → List ℕ → Type 0
 AnswersKinds roles kinds Done text = IsSolved roles kinds text
 AnswersKinds roles kinds Unsatisfiable text = IsUnsolvable roles kinds text
-AnswersKinds roles kinds Refused text = IsBeyond kinds text
 AnswersKinds roles kinds status text = ⊥
 
 -- the status and its text are an answer to `synth` of this file

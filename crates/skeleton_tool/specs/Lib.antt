@@ -1,9 +1,6 @@
 pub mod Answer
 pub mod Command
-pub mod Labels
-pub mod Proposition
 pub mod Refusal
 pub mod Status
-pub mod Solving
 pub mod Taking
 pub mod View

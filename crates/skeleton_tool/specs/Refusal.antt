@@ -1,9 +1,7 @@
--- The printed text of a file that is refused, and of a specification that asks for more than AG of propositions.
-use Rattle.std.specs.Prelude.{ℕ, ◌≡◌, ◌++◌, true, List, All, codes, decimal}
-use Rattle.ctl_form.specs.declared.pair_spec.PairSpec.{PairSpec}
+-- The printed text of a file that is refused.
+use Rattle.std.specs.Prelude.{ℕ, ◌++◌, List, codes, decimal}
 use Rattle.ctl_text.specs.declared.cause.TextCause.{TextCause}
 use Rattle.ctl_text.specs.declared.cause.TextCause.TheVariants.{NotText, BadHead, Long, BadLine, UnknownName, Twice, SelfArc, NoArc, TooMany, ClosureOver, SelfEdge, EdgeTwice, DegreeOver, RoleMismatch, NotAPair, NotRising, Disagree}
-use Rattle.skeleton_tool.specs.Proposition.{is_plain}
 
 -- the name of a cause, without its fields
 abbrev pub cause_word : TextCause → List ℕ
@@ -28,14 +26,3 @@ cause_word Disagree = codes "Disagree"
 -- the file's word, the line, counted from 1, and the cause
 abbrev pub refused_text : List ℕ → ℕ → TextCause → List ℕ
 refused_text word line cause = codes "refused " ++ word ++ codes " " ++ decimal line ++ codes " " ++ cause_word cause ++ codes "\n"
-
-abbrev pub only_always_text : List ℕ
-only_always_text = codes "refused spec 0 OnlyAlways\n"
-
--- each clause of the kind is AG of a proposition
-abbrev pub IsPlainKind : PairSpec → Type 0
-IsPlainKind kind = All (λ f. is_plain f ≡ true) kind.clauses
-
--- each clause of each kind is AG of a proposition
-abbrev pub ArePlain : List PairSpec → Type 0
-ArePlain = All IsPlainKind

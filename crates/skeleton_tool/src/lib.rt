@@ -4,8 +4,6 @@
 mod answer;
 mod call;
 mod command;
-mod engine;
-mod plain;
 mod proving;
 mod refusal;
 mod solving;
@@ -16,5 +14,7 @@ mod taking;
 
 pub use call::plan;
 
+#[cfg(test)]
+mod synthesis_tests;
 #[cfg(test)]
 mod tests;

@@ -1,10 +1,8 @@
 ghost use Rattle.std.specs.Prelude.{◌≡◌, ◌<◌, ◌++◌, [], IfOk, IfErr, OnOk, length, codes};
 ghost use Rattle.skeleton_tool.specs.Answer.{AnswersSynth, AnswersKinds};
 ghost use Rattle.skeleton_tool.specs.Command.{spec_limit};
-ghost use Rattle.skeleton_tool.specs.Refusal.{ArePlain};
 ghost use Rattle.skeleton_tool.specs.Taking.{StopsAs};
 
-use crate::plain::are_plain;
 use crate::solving::solve_all;
 use crate::status::Status;
 use crate::stop::Stop;
@@ -46,22 +44,9 @@ pub(crate) fn synth<S: Shelf>(
     Ok(status)
 }
 
+/// Writes a solution of the kinds, or the first that has none.
 fn answer_kinds(alloc: Global, spec: &Spec, text: &mut Vec<u8>) -> Result<Status, Memory>
     requires { text.old.items ≡ [] }
-    ensures answer { IfOk result (λ status. AnswersKinds spec.now.roles spec.now.kinds status text.new.items) }
-    ensures some { IfOk result (λ status. 0 < length text.new.items) }
-{
-    if !are_plain(spec.kinds()) {
-        text.extend_from_slice(b"refused spec 0 OnlyAlways\n")?;
-        return Ok(Status::Refused);
-    }
-    let status = answer_plain(alloc, spec, text)?;
-    Ok(status)
-}
-
-fn answer_plain(alloc: Global, spec: &Spec, text: &mut Vec<u8>) -> Result<Status, Memory>
-    requires plain { ArePlain spec.now.kinds }
-    requires empty { text.old.items ≡ [] }
     ensures answer { IfOk result (λ status. AnswersKinds spec.now.roles spec.now.kinds status text.new.items) }
     ensures some { IfOk result (λ status. 0 < length text.new.items) }
 {

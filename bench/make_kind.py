@@ -1,0 +1,39 @@
+#!/usr/bin/env python3
+"""Writes a specification of one kind over two equal roles, whose local states are passed in a ring. `free`: 32 local states, all arcs but one
+free, one exclusion. `exclusions`: 31 exclusion clauses. `responses`: 16 local states, each answered by the next. `waiting`: 30 local
+states that are served, an exclusion, and two free arcs. `returns`: 6 local states to each of which a way stays."""
+import sys
+
+
+def exclusion(n):
+    return [f"AG !(a.L{n} & b.L{n})"]
+
+
+def responses(begin, to):
+    return [f"AG ({side}.L{begin} -> AF {side}.L{to})" for side in "ab"]
+
+
+def returns(n):
+    return [f"AG EF {side}.L{n}" for side in "ab"]
+
+
+KINDS = {
+    "free": (32, range(31), exclusion(31)),
+    "exclusions": (32, [], sum((exclusion(n) for n in range(1, 32)), [])),
+    "responses": (16, [], sum((responses(n, n + 1) for n in range(15)), [])),
+    "waiting": (32, [0, 1], sum((responses(n, 31) for n in range(1, 31)), []) + exclusion(31)),
+    "returns": (6, [], sum((returns(n) for n in range(6)), [])),
+}
+
+count, free, clauses = KINDS[sys.argv[1]]
+print("pairs 1\nrole ring")
+for n in range(count):
+    print(f"local L{n}")
+print("start L0")
+for n in range(count):
+    to = (n + 1) % count
+    print(f"arc L{n} L{to}{' free' if to in free else ''}")
+print("end\nkind pair ring ring")
+for clause in clauses:
+    print(f"require {clause}")
+print("end\ndone")
