@@ -29,16 +29,16 @@ roots_satisfy : (a b : RoleParts) (clauses : List Form) (n : NormalParts) (m : S
 roots_satisfy a b clauses n m of sat = record {
   over = sat.over;
   holds = λ i d lt.
-    let within : i < length n.roots = omega (arith, lt, as_many_roots (whole_forms a b clauses) n of) in
-    subst (λ f. Holds m f 0) (get_or_default (whole_forms a b clauses) i truth d lt) ((root_means (whole_forms a b clauses) n a b m i of sat.over lt).0 (sat.roots i 0 within));
+      let within : i < length n.roots = omega (arith, lt, as_many_roots (whole_forms a b clauses) n of) in
+      subst (λ f. Holds m f 0) (get_or_default (whole_forms a b clauses) i truth d lt) ((root_means (whole_forms a b clauses) n a b m i of sat.over lt).0 (sat.roots i 0 within));
 }
 
 satisfies_roots : (a b : RoleParts) (clauses : List Form) (n : NormalParts) (m : Structure) → IsNormalOf (whole_forms a b clauses) n → Satisfies a b clauses m → SatisfiesRoots a b n m
 satisfies_roots a b clauses n m of sat = record {
   over = sat.over;
   roots = λ i d lt.
-    let within : i < length (whole_forms a b clauses) = omega (arith, lt, as_many_roots (whole_forms a b clauses) n of) in
-    subst (λ r. Holds m (formula_of n r) 0) (get_or_default n.roots i 0 d lt) ((root_means (whole_forms a b clauses) n a b m i of sat.over within).1 (sat.holds i truth within));
+      let within : i < length (whole_forms a b clauses) = omega (arith, lt, as_many_roots (whole_forms a b clauses) n of) in
+      subst (λ r. Holds m (formula_of n r) 0) (get_or_default n.roots i 0 d lt) ((root_means (whole_forms a b clauses) n a b m i of sat.over within).1 (sat.holds i truth within));
 }
 
 -- a structure that synthesis gives for the conjuncts satisfies the clauses

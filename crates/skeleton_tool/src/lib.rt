@@ -15,6 +15,8 @@ mod taking;
 pub use call::plan;
 
 #[cfg(test)]
+mod example_texts;
+#[cfg(test)]
 mod synthesis_tests;
 #[cfg(test)]
 mod tests;

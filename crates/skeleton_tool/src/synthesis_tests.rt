@@ -1,7 +1,7 @@
 //! `synth` over files in memory: a solution that `prove` takes, or the first kind that nothing satisfies.
 
+use crate::example_texts::EXAMPLES;
 use crate::tests::{PHIL, expect_proof, mutex_text, planned};
-use edge_io::{FileShelf, Shelf};
 use std::alloc::Global;
 use std::process::Abort;
 use std::test::Fail;
@@ -24,10 +24,8 @@ solves|kind mixed phil phil/require EF a.C/require EF b.C/require EG (a.N & b.N 
 unsatisfiable stuck|kind stuck phil phil/require AG AF a.C/require EF EG a.T/end/";
 
 /// Two roles that start at their last local states.
-const LIGHT: &str = "solves|role lamp/local off/local on/start on/arc off on free/arc on off/end/role door/local open/local shut/start shut/arc shut open/arc open shut free/end/kind light lamp door/require AG (b.open -> a.on)/end/";
-
-/// The examples that the tests read.
-const EXAMPLES: &str = "allocator buffer drinkers first_come handshake lights mutex phases priority printer";
+const LIGHT: &str =
+    "solves|role lamp/local off/local on/start on/arc off on free/arc on off/end/role door/local open/local shut/start shut/arc shut open/arc open shut free/end/kind light lamp door/require AG (b.open -> a.on)/end/";
 
 /// `synth` of this text gives a solution that `prove` takes, where the answer is `solves`; else it ends with 3 and writes the answer.
 fn expect_synthesis(rt: &impl Abort, alloc: Global, spec: &str, answer: &str) -> Result<(), Fail> {
@@ -75,17 +73,16 @@ fn answers_kinds(rt: HostRuntime) -> Result<(), Fail> {
     Ok(())
 }
 
-/// Of the files in `data`, which are those of `examples`.
 #[test]
 fn synthesizes_examples(rt: HostRuntime) -> Result<(), Fail> {
     let alloc = rt.alloc();
-    let mut shelf = FileShelf::new(&rt);
-    for name in EXAMPLES.split(' ') {
-        let file = format!(in alloc; "{name}.pairs")?;
-        let mut bytes = Vec::new(alloc);
-        assert_eq!(rt; shelf.take(&file, 65_536, &mut bytes), Ok(()), "{file}");
-        let spec = String::from_utf8(bytes).ok().ok_or("bytes")?;
+    let mut rest = EXAMPLES;
+    for _ in 0..10u8 {
+        let (text, behind) = rest.split_once("done\n").ok_or("text")?;
+        let spec = format!(in alloc; "{text}done\n")?;
         expect_synthesis(&rt, alloc, &spec, "solves")?;
+        rest = behind;
     }
+    assert!(rt; rest.is_empty());
     Ok(())
 }
