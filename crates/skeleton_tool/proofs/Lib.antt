@@ -12,3 +12,4 @@ pub mod Meaning
 pub mod Roles
 pub mod Solved
 pub mod Taken
+pub mod Skeletons

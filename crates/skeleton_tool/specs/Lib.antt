@@ -1,8 +1,11 @@
 pub mod Answer
 pub mod Command
+pub mod Failing
 pub mod Labels
 pub mod Proposition
 pub mod Refusal
+pub mod Showing
+pub mod Skel
 pub mod Status
 pub mod Solving
 pub mod Taking

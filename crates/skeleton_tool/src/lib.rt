@@ -5,16 +5,23 @@ mod answer;
 mod call;
 mod command;
 mod engine;
+mod failing;
 mod plain;
 mod proving;
 mod refusal;
+mod showing;
 mod solving;
 mod status;
 mod stop;
 mod synthesis;
 mod taking;
+mod taking_both;
 
 pub use call::plan;
 
+#[cfg(test)]
+mod answered;
+#[cfg(test)]
+mod skel_tests;
 #[cfg(test)]
 mod tests;

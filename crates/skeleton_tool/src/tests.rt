@@ -6,7 +6,7 @@ use std::alloc::{AllocError, Global};
 use std::process::Abort;
 use std::test::Fail;
 
-const USAGE: &str = "usage:\n  synth SPEC\n  prove SPEC SOL\n";
+const USAGE: &str = "usage:\n  synth SPEC\n  prove SPEC SOL\n  skel SPEC SOL\n";
 
 const ONLY_ALWAYS: &str = "refused spec 0 OnlyAlways\n";
 
@@ -194,7 +194,7 @@ const SOL: &[u8] = b"solution 1\ndone\n";
 #[test]
 fn judges_words_then_the_file(rt: HostRuntime) -> Result<(), Fail> {
     let alloc = rt.alloc();
-    let rows: [(&[&str], u8, &str); 15] = [
+    let rows: [(&[&str], u8, &str); 17] = [
         (&[], 1, USAGE),
         (&["synth"], 1, USAGE),
         (&["synth", "-x"], 1, USAGE),
@@ -205,6 +205,8 @@ fn judges_words_then_the_file(rt: HostRuntime) -> Result<(), Fail> {
         (&["prove", "spec"], 1, USAGE),
         (&["prove", "-", "sol"], 1, USAGE),
         (&["prove", "spec", "-sol"], 1, USAGE),
+        (&["skel", "spec"], 1, USAGE),
+        (&["skel", "-", "sol"], 1, USAGE),
         (&["synth", "other"], 5, "read fault spec\n"),
         (&["prove", "other", "other"], 5, "read fault spec\n"),
         (&["prove", "spec", "other"], 5, "read fault solution\n"),
@@ -239,7 +241,7 @@ fn reads_a_file_up_to_its_limit(rt: HostRuntime) -> Result<(), Fail> {
 }
 
 /// One philosopher and mutual exclusion with two processes, as a whole text.
-fn mutex_text(alloc: Global) -> Result<String, AllocError> {
+pub(crate) fn mutex_text(alloc: Global) -> Result<String, AllocError> {
     format!(in alloc; "pairs 1\n{}{}done\n", PHIL, MUTEX)
 }
 
@@ -350,7 +352,7 @@ fn judges_closures_before_clauses(rt: HostRuntime) -> Result<(), Fail> {
 }
 
 /// The solutions of mutual exclusion in which the first and in which the last to try goes.
-const FIRST: &str = "solution 1
+pub(crate) const FIRST: &str = "solution 1
 kind mutex
 state N N
 state T N
