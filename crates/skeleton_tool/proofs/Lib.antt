@@ -1,3 +1,4 @@
 pub mod Solved
 pub mod Synthesized
 pub mod Taken
+pub mod Skeletons

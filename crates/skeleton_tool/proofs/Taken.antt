@@ -11,8 +11,8 @@ use Rattle.skeleton_tool.specs.declared.status.Status.{Status}
 use Rattle.skeleton_tool.specs.declared.status.Status.TheVariants.{Done, Usage, Refused, Unsatisfiable, Fails, ReadFault, WriteFault, OutOfMemory}
 use Rattle.skeleton_tool.specs.declared.stop.Stop.{Stop}
 use Rattle.skeleton_tool.specs.declared.stop.Stop.TheVariants.{Answered, Memory}
-use Rattle.skeleton_tool.specs.Answer.{IsSpecRead, NoSolution, AnswersProve, IsSolved}
-use Rattle.skeleton_tool.specs.Command.{Command, synth, prove, asked_files, spec_limit, solution_limit}
+use Rattle.skeleton_tool.specs.Answer.{IsSpecRead, NoSolution, NotRead, IsSolved}
+use Rattle.skeleton_tool.specs.Command.{Command, synth, asked_files, spec_limit, solution_limit}
 use Rattle.skeleton_tool.specs.Taking.{Files, ShelfSeen, IsUntaken, StopsAs}
 
 -- a count that rose later rose
@@ -41,12 +41,12 @@ no_solution_since : (files : Files) (f e g l k m : ℕ) (v : SpecParts) (file : 
 no_solution_since files f e g l k m v file status text le lo (inl h) = inl (untaken_since files f e g l k m (codes "solution") file solution_limit status text le lo h)
 no_solution_since files f e g l k m v file status text le lo (inr h) = inr h
 
-stops_here : (files : Files) (f e g l k m : ℕ) (v : SpecParts) (spec sol text : List ℕ) (stop : Stop) → IsSpecRead files spec v → f ≤ e → l ≤ k → StopsAs (NoSolution (Seen files e g k m) v sol) text stop → StopsAs (AnswersProve (Seen files f g l m) spec sol) text stop
+stops_here : (files : Files) (f e g l k m : ℕ) (v : SpecParts) (spec sol text : List ℕ) (stop : Stop) → IsSpecRead files spec v → f ≤ e → l ≤ k → StopsAs (NoSolution (Seen files e g k m) v sol) text stop → StopsAs (NotRead (Seen files f g l m) spec sol) text stop
 stops_here files f e g l k m v spec sol text Memory read le lo h = tt
-stops_here files f e g l k m v spec sol text (Answered status) read le lo h = (inr (v, read, inl (no_solution_since files f e g l k m v sol status text le lo h.0)), h.1)
+stops_here files f e g l k m v spec sol text (Answered status) read le lo h = (inr (v, read, no_solution_since files f e g l k m v sol status text le lo h.0), h.1)
 
 -- where no solution is taken behind a specification, the call stops so
-pub stops_later : (files later : Files) (f e g l k m : ℕ) (v : SpecParts) (spec sol text : List ℕ) (stop : Stop) → later ≡ files → IsSpecRead files spec v → f ≤ e → l ≤ k → StopsAs (NoSolution (Seen later e g k m) v sol) text stop → StopsAs (AnswersProve (Seen files f g l m) spec sol) text stop
+pub stops_later : (files later : Files) (f e g l k m : ℕ) (v : SpecParts) (spec sol text : List ℕ) (stop : Stop) → later ≡ files → IsSpecRead files spec v → f ≤ e → l ≤ k → StopsAs (NoSolution (Seen later e g k m) v sol) text stop → StopsAs (NotRead (Seen files f g l m) spec sol) text stop
 stops_later files later f e g l k m v spec sol text stop same read le lo h = stops_here files f e g l k m v spec sol text stop read le lo (rw same at h)
 
 -- the text that was written for structures that solve is the answer
@@ -60,8 +60,9 @@ solved_text v ms sol old new solves same empty written text = record {
 pub synth_asks : (MayAsk : List ℕ × ℕ → Type 0) (command : Command) (spec : List ℕ) → command ≡ synth spec → All MayAsk (asked_files (Some command)) → MayAsk (spec, spec_limit)
 synth_asks MayAsk command spec is allowed = let all = rw is at allowed in all 0 (spec, spec_limit) (omega arith)
 
-pub prove_asks : (MayAsk : List ℕ × ℕ → Type 0) (command : Command) (spec sol : List ℕ) → command ≡ prove spec sol → All MayAsk (asked_files (Some command)) → MayAsk (spec, spec_limit) × MayAsk (sol, solution_limit)
-prove_asks MayAsk command spec sol is allowed = let all = rw is at allowed in (all 0 (spec, spec_limit) (omega arith), all 1 (spec, spec_limit) (omega arith))
+-- a command over a specification and a solution asks for both
+pub both_asked : (MayAsk : List ℕ × ℕ → Type 0) (command : Command) (spec sol : List ℕ) → asked_files (Some command) ≡ (spec, spec_limit) ∷ (sol, solution_limit) ∷ [] → All MayAsk (asked_files (Some command)) → MayAsk (spec, spec_limit) × MayAsk (sol, solution_limit)
+both_asked MayAsk command spec sol is allowed = let all = rw is at allowed in (all 0 (spec, spec_limit) (omega arith), all 1 (spec, spec_limit) (omega arith))
 
 -- three pieces, one after another
 pub three_pieces : (a x y w z b c d : List ℕ) → b ≡ a ++ x → c ≡ b ++ y → y ≡ w → d ≡ c ++ z → d ≡ a ++ (x ++ w ++ z)

@@ -9,12 +9,13 @@ use Rattle.ctl_form.specs.Kind.{SatisfiesKind, Solves}
 use Rattle.ctl_text.specs.declared.cause.TextCause.{TextCause}
 use Rattle.ctl_text.specs.Value.{SpecParts, kind_at}
 use Rattle.ctl_text.specs.Text.{IsSpecText, IsRefused}
-use Rattle.solution_text.specs.Failing.{IsFirstFailing}
 use Rattle.solution_text.specs.Text.{IsSolutionText, IsRefused as IsSolutionRefused}
 use Rattle.skeleton_tool.specs.declared.status.Status.{Status}
 use Rattle.skeleton_tool.specs.declared.status.Status.TheVariants.{Done, Usage, Refused, Unsatisfiable, Fails, ReadFault, WriteFault, OutOfMemory}
-use Rattle.skeleton_tool.specs.Command.{Command, synth, prove, command_of, usage_text, spec_limit, solution_limit}
+use Rattle.skeleton_tool.specs.Command.{Command, synth, prove, skel, command_of, usage_text, spec_limit, solution_limit}
 use Rattle.skeleton_tool.specs.Status.{code_of}
+use Rattle.skeleton_tool.specs.Failing.{NamesFailing}
+use Rattle.skeleton_tool.specs.Skel.{Skels}
 use Rattle.skeleton_tool.specs.Refusal.{refused_text}
 use Rattle.skeleton_tool.specs.Taking.{Files, ShelfSeen, IsGiven, IsUntaken}
 
@@ -91,21 +92,27 @@ AnswersSynth shelf file status text = NoSpec shelf file status text ⊎ ((v : Sp
 -- the structures solve, or the first kind that fails is named
 abbrev pub Proves : SpecParts → List Structure → Status → List ℕ → Type 0
 Proves v structures Done text = Solves v.roles v.kinds structures × (text ≡ codes "solves\n")
-Proves v structures Fails text = (kind : ℕ) × IsFirstFailing v.roles v.kinds structures kind × (text ≡ codes "fails " ++ (kind_at v.kinds kind).name ++ codes "\n")
+Proves v structures Fails text = NamesFailing v structures text
 Proves v structures status text = ⊥
 
--- the status and its text are an answer to this file as a solution of the specification
-abbrev pub AnswersSolution : ShelfSeen → SpecParts → List ℕ → Status → List ℕ → Type 0
-AnswersSolution shelf v file status text = NoSolution shelf v file status text ⊎ ((structures : List Structure) × IsSolutionRead shelf.files v file structures × Proves v structures status text)
+-- a specification and a solution of it are read
+pub record AreRead (files : Files) (spec sol : List ℕ) (v : SpecParts) (structures : List Structure) : Type 0 where
+  pub spec_read : IsSpecRead files spec v
+  pub solution_read : IsSolutionRead files v sol structures
 
--- the status and its text are an answer to `prove` of these files: the specification comes first, whole
-abbrev pub AnswersProve : ShelfSeen → List ℕ → List ℕ → Status → List ℕ → Type 0
-AnswersProve shelf spec sol status text = NoSpec shelf spec status text ⊎ ((v : SpecParts) × IsSpecRead shelf.files spec v × AnswersSolution shelf v sol status text)
+-- one of the two is not: the specification comes first, whole
+abbrev pub NotRead : ShelfSeen → List ℕ → List ℕ → Status → List ℕ → Type 0
+NotRead shelf spec sol status text = NoSpec shelf spec status text ⊎ ((v : SpecParts) × IsSpecRead shelf.files spec v × NoSolution shelf v sol status text)
+
+-- one of the two is not read, or both are and what they say is answered so
+abbrev pub AnswersBoth : (SpecParts → List Structure → Status → List ℕ → Type 0) → ShelfSeen → List ℕ → List ℕ → Status → List ℕ → Type 0
+AnswersBoth answers shelf spec sol status text = NotRead shelf spec sol status text ⊎ ((v : SpecParts) × (structures : List Structure) × AreRead shelf.files spec sol v structures × answers v structures status text)
 
 -- the status and its text are an answer to this command
 abbrev pub AnswersCommand : ShelfSeen → Command → Status → List ℕ → Type 0
 AnswersCommand shelf (synth spec) status text = AnswersSynth shelf spec status text
-AnswersCommand shelf (prove spec sol) status text = AnswersProve shelf spec sol status text
+AnswersCommand shelf (prove spec sol) status text = AnswersBoth Proves shelf spec sol status text
+AnswersCommand shelf (skel spec sol) status text = AnswersBoth Skels shelf spec sol status text
 
 -- the status and its text are an answer to these words, over such a shelf
 abbrev pub IsAnswer : List (List ℕ) → ShelfSeen → Status → List ℕ → Type 0

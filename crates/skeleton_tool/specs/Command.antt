@@ -1,29 +1,37 @@
 -- The words of a call, and the command that they are.
-use Rattle.std.specs.Prelude.{ℕ, ◌==◌, ◌&&◌, not, Bool, false, Option, Some, None, List, [], ◌∷◌, codes, map, String, string_bytes, if◌then◌else◌}
+use Rattle.std.specs.Prelude.{ℕ, ◌==◌, ◌&&◌, ◌||◌, not, Bool, false, Option, Some, None, List, [], ◌∷◌, codes, map, String, string_bytes, if◌then◌else◌}
 use Rattle.std.specs.declared.alloc.Global.{Global}
 use Rattle.std.specs.Str.{bytes_eq}
 
--- each with its files: a specification, and for `prove` a solution
+-- each with its files: a specification, and behind it for `prove` and `skel` a solution
 pub data Command : Type 0 where
   synth : List ℕ → Command
   prove : List ℕ → List ℕ → Command
+  skel : List ℕ → List ℕ → Command
 
 -- 45 is '-'
 abbrev pub begins_with_dash : List ℕ → Bool
 begins_with_dash [] = false
 begins_with_dash (first ∷ rest) = first == 45
 
+-- the commands over a specification and a solution
+abbrev pub command_on : List ℕ → List ℕ → List ℕ → Option Command
+command_on name spec sol =
+    if begins_with_dash spec || begins_with_dash sol then None else
+    if bytes_eq name (codes "prove") then Some (prove spec sol) else
+    if bytes_eq name (codes "skel") then Some (skel spec sol) else None
+
 -- the name of the command, and as many words as it takes, of which none begins with a dash
 abbrev pub command_of : List (List ℕ) → Option Command
 command_of (name ∷ spec ∷ []) = if bytes_eq name (codes "synth") && not (begins_with_dash spec) then Some (synth spec) else None
-command_of (name ∷ spec ∷ sol ∷ []) = if bytes_eq name (codes "prove") && not (begins_with_dash spec) && not (begins_with_dash sol) then Some (prove spec sol) else None
+command_of (name ∷ spec ∷ sol ∷ []) = command_on name spec sol
 command_of words = None
 
 abbrev pub words_of : List (String Global) → List (List ℕ)
 words_of = map string_bytes
 
 abbrev pub usage_text : List ℕ
-usage_text = codes "usage:\n  synth SPEC\n  prove SPEC SOL\n"
+usage_text = codes "usage:\n  synth SPEC\n  prove SPEC SOL\n  skel SPEC SOL\n"
 
 -- the most bytes that a specification may have
 abbrev pub spec_limit : ℕ
@@ -37,4 +45,5 @@ solution_limit = 67108864
 abbrev pub asked_files : Option Command → List (List ℕ × ℕ)
 asked_files (Some (synth spec)) = (spec, spec_limit) ∷ []
 asked_files (Some (prove spec sol)) = (spec, spec_limit) ∷ (sol, solution_limit) ∷ []
+asked_files (Some (skel spec sol)) = (spec, spec_limit) ∷ (sol, solution_limit) ∷ []
 asked_files None = []

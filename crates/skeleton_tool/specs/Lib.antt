@@ -1,6 +1,9 @@
 pub mod Answer
 pub mod Command
+pub mod Failing
 pub mod Refusal
+pub mod Showing
+pub mod Skel
 pub mod Status
 pub mod Taking
 pub mod View

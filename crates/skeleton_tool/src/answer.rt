@@ -6,6 +6,7 @@ ghost use Rattle.skeleton_tool.specs.View.{command_value};
 
 use crate::command::{Command, command_in};
 use crate::proving::prove;
+use crate::showing::skel;
 use crate::status::Status;
 use crate::stop::Stop;
 use crate::synthesis::synth;
@@ -40,7 +41,7 @@ pub(crate) fn answer<S: Shelf>(
             }
         }
         None => {
-            text.extend_from_slice(b"usage:\n  synth SPEC\n  prove SPEC SOL\n")?;
+            text.extend_from_slice(b"usage:\n  synth SPEC\n  prove SPEC SOL\n  skel SPEC SOL\n")?;
             Ok(Status::Usage)
         }
     }
@@ -78,6 +79,10 @@ fn answer_command<S: Shelf>(
         }
         Command::Prove(spec, sol) => {
             let status = prove(alloc, spec, sol, shelf, text)?;
+            Ok(status)
+        }
+        Command::Skel(spec, sol) => {
+            let status = skel(alloc, spec, sol, shelf, text)?;
             Ok(status)
         }
     }

@@ -1,6 +1,6 @@
 ghost use Rattle.std.specs.Prelude.{◌≡◌};
 ghost use Rattle.std.specs.Option.{option_map};
-ghost use Rattle.skeleton_tool.specs.Command.{command_of, words_of, begins_with_dash};
+ghost use Rattle.skeleton_tool.specs.Command.{command_of, command_on, words_of, begins_with_dash};
 ghost use Rattle.skeleton_tool.specs.View.{command_value};
 
 /// A command, with the words of its files.
@@ -8,6 +8,7 @@ ghost use Rattle.skeleton_tool.specs.View.{command_value};
 pub(crate) enum Command<'a> {
     Synth(&'a str),
     Prove(&'a str, &'a str),
+    Skel(&'a str, &'a str),
 }
 
 /// The command that the words are, if they are one: its name, and as many words as it takes, of which none begins with a dash.
@@ -18,14 +19,25 @@ pub(crate) fn command_in(words: &[String]) -> Option<Command<'_>>
         [name, spec] if name.as_str() == "synth" && !begins_with_dash(spec.as_str()) => {
             Some(Command::Synth(spec.as_str()))
         }
-        [name, spec, sol]
-            if name.as_str() == "prove"
-                && !begins_with_dash(spec.as_str())
-                && !begins_with_dash(sol.as_str()) => {
-            Some(Command::Prove(spec.as_str(), sol.as_str()))
-        }
+        [name, spec, sol] => command_on(name.as_str(), spec.as_str(), sol.as_str()),
         _ => None,
     }
+}
+
+/// The command of this name over a specification and a solution.
+fn command_on<'a>(name: &str, spec: &'a str, sol: &'a str) -> Option<Command<'a>>
+    ensures { option_map command_value result ≡ command_on name.now spec.entry.now sol.entry.now }
+{
+    if begins_with_dash(spec) || begins_with_dash(sol) {
+        return None;
+    }
+    if name == "prove" {
+        return Some(Command::Prove(spec, sol));
+    }
+    if name == "skel" {
+        return Some(Command::Skel(spec, sol));
+    }
+    None
 }
 
 fn begins_with_dash(word: &str) -> bool

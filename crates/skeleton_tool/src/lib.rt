@@ -4,18 +4,25 @@
 mod answer;
 mod call;
 mod command;
+mod failing;
 mod proving;
 mod refusal;
+mod showing;
 mod solving;
 mod status;
 mod stop;
 mod synthesis;
 mod taking;
+mod taking_both;
 
 pub use call::plan;
 
 #[cfg(test)]
+mod answered;
+#[cfg(test)]
 mod example_texts;
+#[cfg(test)]
+mod skel_tests;
 #[cfg(test)]
 mod synthesis_tests;
 #[cfg(test)]

@@ -1,17 +1,17 @@
-ghost use Rattle.std.specs.Prelude.{◌≡◌, ◌<◌, ◌++◌, [], IfOk, IfErr, OnOk, length, codes};
-ghost use Rattle.skeleton_tool.specs.Answer.{AnswersProve, Proves};
+ghost use Rattle.std.specs.Prelude.{◌≡◌, ◌<◌, [], IfOk, IfErr, length};
+ghost use Rattle.skeleton_tool.specs.Answer.{AnswersBoth, Proves};
 ghost use Rattle.skeleton_tool.specs.Command.{spec_limit, solution_limit};
 ghost use Rattle.skeleton_tool.specs.Taking.{StopsAs};
 ghost use Rattle.solution_text.specs.SolutionText.{AreOver};
 
+use crate::failing::solves_or_writes;
 use crate::status::Status;
 use crate::stop::Stop;
-use crate::taking::{take_solution, take_spec};
-use ctl_form::PairSpec;
+use crate::taking_both::take_both;
 use ctl_text::Spec;
 use edge_io::Shelf;
 use pair_structure::Memory;
-use solution_text::{Solution, first_failing};
+use solution_text::Solution;
 use std::alloc::Global;
 
 /// Writes whether the solution of one file solves the specification of another.
@@ -25,7 +25,7 @@ pub(crate) fn prove<S: Shelf>(
     requires spec { S.may_ask shelf.old spec.now spec_limit }
     requires sol { S.may_ask shelf.old sol.now solution_limit }
     requires empty { text.old.items ≡ [] }
-    ensures answer { IfOk result (λ status. AnswersProve (record {
+    ensures answer { IfOk result (λ status. AnswersBoth Proves (record {
       files = S.files shelf.old;
       faults_before = S.faults shelf.old;
       faults_after = S.faults shelf.new;
@@ -33,7 +33,7 @@ pub(crate) fn prove<S: Shelf>(
       longs_after = S.longs shelf.new;
     }) spec.now sol.now status text.new.items) }
     ensures some { IfOk result (λ status. 0 < length text.new.items) }
-    ensures stopped { IfErr result (StopsAs (AnswersProve (record {
+    ensures stopped { IfErr result (StopsAs (AnswersBoth Proves (record {
       files = S.files shelf.old;
       faults_before = S.faults shelf.old;
       faults_after = S.faults shelf.new;
@@ -41,12 +41,8 @@ pub(crate) fn prove<S: Shelf>(
       longs_after = S.longs shelf.new;
     }) spec.now sol.now) text.new.items) }
 {
-    let spec = take_spec(alloc, spec, shelf, text)?;
-    let solution = match take_solution(alloc, &spec, sol, shelf, text) {
-        Ok(solution) => solution,
-        Err(stop) => return Err(stop),
-    };
-    let status = judge(alloc, &spec, &solution, text)?;
+    let (spec, sol) = take_both(alloc, spec, sol, shelf, text)?;
+    let status = judge(alloc, &spec, &sol, text)?;
     Ok(status)
 }
 
@@ -57,23 +53,9 @@ fn judge(alloc: Global, spec: &Spec, sol: &Solution, text: &mut Vec<u8>) -> Resu
     ensures answer { IfOk result (λ status. Proves spec.now sol.now status text.new.items) }
     ensures some { IfOk result (λ status. 0 < length text.new.items) }
 {
-    match first_failing(alloc, spec, sol)? {
-        None => {
-            text.extend_from_slice(b"solves\n")?;
-            Ok(Status::Done)
-        }
-        Some(kind) => {
-            write_failing(&spec.kinds()[kind as usize], text)?;
-            Ok(Status::Fails)
-        }
+    if !solves_or_writes(alloc, spec, sol, text)? {
+        return Ok(Status::Fails);
     }
-}
-
-fn write_failing(kind: &PairSpec, into: &mut Vec<u8>) -> Result<(), Memory>
-    ensures { OnOk result (into.new.items ≡ into.old.items ++ codes "fails " ++ kind.now.name ++ codes "\n") }
-{
-    into.extend_from_slice(b"fails ")?;
-    into.extend_from_slice(kind.name.as_str().as_bytes())?;
-    into.extend_from_slice(b"\n")?;
-    Ok(())
+    text.extend_from_slice(b"solves\n")?;
+    Ok(Status::Done)
 }

@@ -72,6 +72,10 @@ pub(crate) fn take_solution<S: Shelf>(
       longs_before = S.longs shelf.old;
       longs_after = S.longs shelf.new;
     }) spec.now file.now) text.new.items) }
+    ensures same_files { S.files shelf.new ≡ S.files shelf.old }
+    ensures still_allowed { (n : List ℕ) (k : ℕ) → S.may_ask shelf.old n k → S.may_ask shelf.new n k }
+    ensures faults_stay { S.faults shelf.old ≤ S.faults shelf.new }
+    ensures longs_stay { S.longs shelf.old ≤ S.longs shelf.new }
 {
     let bytes = take_file(alloc, file, MAX_SOLUTION, "solution", shelf, text)?;
     match read_solution(alloc, spec, &bytes) {

@@ -6,7 +6,7 @@ use std::alloc::{AllocError, Global};
 use std::process::Abort;
 use std::test::Fail;
 
-const USAGE: &str = "usage:\n  synth SPEC\n  prove SPEC SOL\n";
+const USAGE: &str = "usage:\n  synth SPEC\n  prove SPEC SOL\n  skel SPEC SOL\n";
 
 pub(crate) const PHIL: &str =
     "role phil\nlocal N\nlocal T\nlocal C\nstart N\narc N T free\narc T C\narc C N free\nend\n";
@@ -126,7 +126,7 @@ const SOL: &[u8] = b"solution 1\ndone\n";
 #[test]
 fn judges_words_then_the_file(rt: HostRuntime) -> Result<(), Fail> {
     let alloc = rt.alloc();
-    let rows: [(&[&str], u8, &str); 15] = [
+    let rows: [(&[&str], u8, &str); 17] = [
         (&[], 1, USAGE),
         (&["synth"], 1, USAGE),
         (&["synth", "-x"], 1, USAGE),
@@ -137,6 +137,8 @@ fn judges_words_then_the_file(rt: HostRuntime) -> Result<(), Fail> {
         (&["prove", "spec"], 1, USAGE),
         (&["prove", "-", "sol"], 1, USAGE),
         (&["prove", "spec", "-sol"], 1, USAGE),
+        (&["skel", "spec"], 1, USAGE),
+        (&["skel", "-", "sol"], 1, USAGE),
         (&["synth", "other"], 5, "read fault spec\n"),
         (&["prove", "other", "other"], 5, "read fault spec\n"),
         (&["prove", "spec", "other"], 5, "read fault solution\n"),
@@ -280,7 +282,7 @@ fn counts_closures_where_they_are_read(rt: HostRuntime) -> Result<(), Fail> {
 }
 
 /// The solutions of mutual exclusion in which the first and in which the last to try goes.
-const FIRST: &str = "solution 1
+pub(crate) const FIRST: &str = "solution 1
 kind mutex
 state N N
 state T N

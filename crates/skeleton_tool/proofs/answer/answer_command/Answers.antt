@@ -1,13 +1,20 @@
-use Rattle.std.proofs.Common.{ℕ, List, ap}
+use Rattle.std.proofs.Common.{ℕ, List, ap, Some}
+use Rattle.skeleton_tool.specs.Command.{asked_files}
 use Rattle.skeleton_tool.specs.View.{command_value}
-use Rattle.skeleton_tool.proofs.Taken.{synth_asks, prove_asks}
+use Rattle.skeleton_tool.proofs.Taken.{synth_asks, both_asked}
 use Rattle.skeleton_tool.proofs.answer.answer_command.Goals as goal
 
 pub synth-requires-clause-allowed : goal.synth-requires-clause-allowed
 synth-requires-clause-allowed g c = synth_asks (λ (file : List ℕ × ℕ). g.S.Shelf.may_ask c.args.shelf.now file.0 file.1) (command_value c.args.command) c.in-Synth.spec.now (ap command_value c.in-Synth.is) c.requires.allowed
 
 pub prove-requires-clause-spec : goal.prove-requires-clause-spec
-prove-requires-clause-spec g c = (prove_asks (λ (file : List ℕ × ℕ). g.S.Shelf.may_ask c.args.shelf.now file.0 file.1) (command_value c.args.command) c.in-Prove.spec.now c.in-Prove.sol.now (ap command_value c.in-Prove.is) c.requires.allowed).0
+prove-requires-clause-spec g c = (both_asked (λ (file : List ℕ × ℕ). g.S.Shelf.may_ask c.args.shelf.now file.0 file.1) (command_value c.args.command) c.in-Prove.spec.now c.in-Prove.sol.now (ap (λ x. asked_files (Some (command_value x))) c.in-Prove.is) c.requires.allowed).0
 
 pub prove-requires-clause-sol : goal.prove-requires-clause-sol
-prove-requires-clause-sol g c = (prove_asks (λ (file : List ℕ × ℕ). g.S.Shelf.may_ask c.args.shelf.now file.0 file.1) (command_value c.args.command) c.in-Prove.spec.now c.in-Prove.sol.now (ap command_value c.in-Prove.is) c.requires.allowed).1
+prove-requires-clause-sol g c = (both_asked (λ (file : List ℕ × ℕ). g.S.Shelf.may_ask c.args.shelf.now file.0 file.1) (command_value c.args.command) c.in-Prove.spec.now c.in-Prove.sol.now (ap (λ x. asked_files (Some (command_value x))) c.in-Prove.is) c.requires.allowed).1
+
+pub skel-requires-clause-spec : goal.skel-requires-clause-spec
+skel-requires-clause-spec g c = (both_asked (λ (file : List ℕ × ℕ). g.S.Shelf.may_ask c.args.shelf.now file.0 file.1) (command_value c.args.command) c.in-Skel.spec.now c.in-Skel.sol.now (ap (λ x. asked_files (Some (command_value x))) c.in-Skel.is) c.requires.allowed).0
+
+pub skel-requires-clause-sol : goal.skel-requires-clause-sol
+skel-requires-clause-sol g c = (both_asked (λ (file : List ℕ × ℕ). g.S.Shelf.may_ask c.args.shelf.now file.0 file.1) (command_value c.args.command) c.in-Skel.spec.now c.in-Skel.sol.now (ap (λ x. asked_files (Some (command_value x))) c.in-Skel.is) c.requires.allowed).1
