@@ -10,6 +10,8 @@ mod step;
 mod synthesis;
 mod tableau;
 mod target;
+#[cfg(test)]
+mod tests;
 mod turns;
 mod unravelling;
 

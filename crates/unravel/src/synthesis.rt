@@ -25,7 +25,10 @@ pub fn synthesize(alloc: Global, a: &Role, b: &Role, form: &Normal) -> Result<Ou
     let closure = Closure::of(alloc, form)?;
     let tableau = Tableau::build(alloc, &closure, a, b)?;
     match prune(alloc, tableau)? {
-        Pruned::Alive(ranks) => Ok(Outcome::Structure(unravelled(alloc, &ranks)?)),
+        Pruned::Alive(ranks) => {
+            let m = unravelled(alloc, &ranks)?;
+            Ok(Outcome::Structure(m))
+        }
         Pruned::Dead => Ok(Outcome::Unsatisfiable),
     }
 }

@@ -8,10 +8,10 @@ use Rattle.unravel.proofs.synthesis.synthesize.Goals as goal
 pub returns-in-Alive : goal.returns-in-Alive
 returns-in-Alive c =
     let t = c.in_ok-tableau.tableau in
-    let m = c.in_ok-unravelled-in-Alive.field-0 in
+    let m = c.in_ok-m-in-Alive.m in
     let built = c.in_ok-tableau.ensures in
     let closed = c.in_ok-closure.ensures in
-    roots_satisfied c.args.a.now c.args.b.now c.args.form.now t (record { role_a = built.a; role_b = built.b; parts = ap (λ (x : ClosureParts). x.parts) built.closure ∙ closed.parts; roots = ap (λ (x : ClosureParts). x.roots) built.closure ∙ closed.roots }) m (subst (λ (x : TableauParts). Satisfies x.a x.b x.closure m) (alive_is t c.in_ok-ranks.field-0 c.in-Alive.ranks c.in-Alive.is c.in_ok-ranks.ensures) c.in_ok-unravelled-in-Alive.ensures)
+    roots_satisfied c.args.a.now c.args.b.now c.args.form.now t (record { role_a = built.a; role_b = built.b; parts = ap (λ (x : ClosureParts). x.parts) built.closure ∙ closed.parts; roots = ap (λ (x : ClosureParts). x.roots) built.closure ∙ closed.roots }) m (subst (λ (x : TableauParts). Satisfies x.a x.b x.closure m) (alive_is t c.in_ok-ranks.field-0 c.in-Alive.ranks c.in-Alive.is c.in_ok-ranks.ensures) c.in_ok-m-in-Alive.ensures)
 
 pub returns : goal.returns
 returns c =
