@@ -1,11 +1,16 @@
+pub mod Cursors
 pub mod Deletion
+pub mod Edges
 pub mod Laws
+pub mod Lists
 pub mod Marks
 pub mod Met
 pub mod Outcome
 pub mod Picking
 pub mod Pruned
 pub mod Satisfying
+pub mod Spread
 pub mod Stable
 pub mod Tests
+pub mod Thinning
 pub mod Unravel

@@ -1,0 +1,16 @@
+ghost use Rattle.std.specs.Prelude.{◌≡◌, ◌<◌, ◌↔◌, ℕ, Contains, IsTrue, length};
+ghost use Rattle.deletion_rules.specs.Cursors.{flag_of, EachIs, HasPassed};
+
+/// Whether the flags of all items are so. The cursor goes on to the first item of which it is not, so that over all calls each item is passed
+/// once, as long as flags that are so stay so.
+pub(crate) fn is_through(items: &[u64], flags: &[bool], value: bool, cursor: &mut usize) -> bool
+    requires items { (x : ℕ) → Contains items.now x → x < length flags.now }
+    requires before { HasPassed items.now flags.now value cursor.old }
+    ensures through { IsTrue result ↔ EachIs flags.now value items.now }
+    ensures after { HasPassed items.now flags.now value cursor.new }
+{
+    while *cursor < items.len() && flags[items[*cursor] as usize] == value {
+        *cursor += 1;
+    }
+    *cursor == items.len()
+}
