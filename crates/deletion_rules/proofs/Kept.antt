@@ -20,7 +20,7 @@ use Rattle.deletion_rules.specs.Met.{Meets, MetLive}
 use Rattle.deletion_rules.specs.Pruned.{IsUnsatisfiable}
 use Rattle.deletion_rules.specs.Stable.{IsLasting}
 use Rattle.deletion_rules.proofs.Removal.{removal_keeps_met, dead_is_unsatisfiable}
-use Rattle.deletion_rules.proofs.Sweeps.{living_within}
+use Rattle.deletion_rules.proofs.Standing.{flag_within}
 
 abbrev Within : List Bool → List Bool → Type 0
 Within xs ys = (n : ℕ) → lives_of xs n ≡ true → lives_of ys n ≡ true
@@ -80,7 +80,7 @@ rank_strong c g lives u n r marks part p h e = by part p
 
 module _ (t : TableauParts) (lives left : List Bool) (table : List (List (Option ℕ))) (long : length lives ≡ length t.ands) (h : AreTable t.closure (graph_of t) (lives_of lives) (count t.closure) table) (l : AreLeft t.closure (graph_of t) (lives_of lives) table (length t.ands) left) where
   left_within : (n : ℕ) → lives_of left n ≡ true → n < length t.ands
-  left_within n e = let lt = living_within left n e in let q = l.long in omega (arith, lt, q)
+  left_within n e = let lt = flag_within left n e in let q = l.long in omega (arith, lt, q)
 
   fewer : Within left lives
   fewer n e = (l.stays n (left_within n e) e).living
@@ -110,7 +110,7 @@ module _ (t : TableauParts) (lives left : List Bool) (table : List (List (Option
 
     pub left_kept : IsKept t.closure (graph_of t) (lives_of lives) (ranks_of table)
     left_kept = record {
-      nodes = λ n x. let lt = living_within lives n x in omega (arith, lt, long);
+      nodes = λ n x. let lt = flag_within lives n x in omega (arith, lt, long);
       successors = λ n i h' side x some. (is_left n x).successors i h' side some;
       ranks = record { some = ranked; only = only };
     }

@@ -15,10 +15,11 @@ pub mod Rows
 pub mod Satisfied
 pub mod Searches
 pub mod Seen
+pub mod SpreadLaws
 pub mod Standing
 pub mod States
 pub mod Survive
-pub mod Sweeps
 pub mod Tables
+pub mod VisitLaws
 pub mod WholePlan
 pub mod Within

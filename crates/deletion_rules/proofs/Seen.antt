@@ -16,6 +16,7 @@ use Rattle.deletion_rules.specs.Cursors.{flag_of}
 use Rattle.deletion_rules.specs.Deletion.{LivesOr}
 use Rattle.deletion_rules.specs.Marks.{lives_of}
 use Rattle.deletion_rules.specs.Tests.{lives_or, lives_on, AreLivingOrs}
+use Rattle.deletion_rules.proofs.Within.{successor_within}
 
 pub both_of : (a b : Bool) → a && b ≡ true → (a ≡ true) × (b ≡ true)
 both_of true b e = (refl, e)
@@ -111,11 +112,8 @@ module _ (t : TableauParts) (k : IsTableau t) (lives : List Bool) where
 
   -- the same, by a list of the OR nodes that have a living child
   module _ (ors : List Bool) (h : AreLivingOrs t lives (length t.ors) ors) where
-    successor_small : (n o : ℕ) → n < length t.ands → Contains (edges_at t.successors n) o → o < length t.ors
-    successor_small n o small there = let all = k.all_ands in (k.rules.successors n (omega (arith, small, all))).within o there
-
     pub lives_on_out : (n : ℕ) → n < length t.ands → lives_on t ors n ≡ true → (i h : ℕ) (side : Side) → IsSomeNext t.closure (graph_of t) n i side h → LivesOr (graph_of t) (lives_of lives) ((graph_of t).next_or n i)
-    lives_on_out n small e i j side some = let there = successor_there t k n i j side some in let o = (graph_of t).next_or n i in lives_or_out o (sym (h.each o (successor_small n o small there)) ∙ all_out (flag_of ors) (edges_at t.successors n) e o there)
+    lives_on_out n small e i j side some = let there = successor_there t k n i j side some in let o = (graph_of t).next_or n i in lives_or_out o (sym (h.each o (successor_within t k n o small there)) ∙ all_out (flag_of ors) (edges_at t.successors n) e o there)
 
     pub lives_on_in : (n : ℕ) → n < length t.ands → ((i h : ℕ) (side : Side) → IsSomeNext t.closure (graph_of t) n i side h → LivesOr (graph_of t) (lives_of lives) ((graph_of t).next_or n i)) → lives_on t ors n ≡ true
-    lives_on_in n small f = all_in (flag_of ors) (edges_at t.successors n) (λ o there. let u = successor_hit t k n o small there in h.each o (successor_small n o small there) ∙ subst (λ x. lives_or t lives x ≡ true) u.4 (lives_or_in ((graph_of t).next_or n u.0) (f u.0 u.1 u.2 u.3)))
+    lives_on_in n small f = all_in (flag_of ors) (edges_at t.successors n) (λ o there. let u = successor_hit t k n o small there in h.each o (successor_within t k n o small there) ∙ subst (λ x. lives_or t lives x ≡ true) u.4 (lives_or_in ((graph_of t).next_or n u.0) (f u.0 u.1 u.2 u.3)))

@@ -1,9 +1,12 @@
 -- What stands in a list before a place, and flags of a list.
-use Rattle.std.proofs.Common.{ℕ, suc, ◌≡◌, ◌≢◌, ◌⊎◌, ◌<◌, ◌≤◌, ◌+◌, inl, inr, Bool, true, false, List, Contains, length, refl, subst, sym, ◌∙◌, ap, arith, slice_index_or, slice_set}
+use Rattle.std.proofs.Common.{ℕ, suc, ◌≡◌, ◌≢◌, ◌⊎◌, ◌<◌, ◌≤◌, ◌+◌, inl, inr, Bool, true, false, List, Contains, length, length-set, refl, subst, sym, ◌∙◌, ap, arith, eqb, slice_index, slice_index_or, slice_set, ◌↔◌, IsTrue}
 use Rattle.std.proofs.Math.Decide.{dec_lt, ℕ_discrete}
-use Rattle.std.proofs.lemmas.Bool.{cases_lt}
+use Rattle.std.proofs.Math.Bool.{beq}
+use Rattle.std.proofs.lemmas.Bool.{cases_lt, eq-eqb, eqb-true}
+use Rattle.std.proofs.lemmas.Grind.{get_or_default_zero}
 use Rattle.std.proofs.lemmas.List.{get_or_default, get_or_past, get_or-set_same, get_or-set_other}
-use Rattle.deletion_rules.specs.Cursors.{flag_of}
+use Rattle.tableau_graph.specs.TableauParts.{edges_at}
+use Rattle.deletion_rules.specs.Cursors.{flag_of, AreCursors, EachIs, HasPassed}
 use Rattle.deletion_rules.specs.Lists.{StandsBefore}
 
 pub none_before : {A : Type 0} (xs : List A) (x : A) → StandsBefore xs 0 x → ⊥
@@ -42,3 +45,29 @@ flag_kept flags i j lt e = elim (ℕ_discrete j i) [ yes q ↦ subst (λ z. flag
 
 pub flag_cases : (flags : List Bool) (i j : ℕ) → flag_of (slice_set flags i true) j ≡ true → (flag_of flags j ≡ true) ⊎ (j ≡ i)
 flag_cases flags i j e = elim (ℕ_discrete j i) [ yes q ↦ inr q | no n ↦ inl (sym (flag_other flags i j true n) ∙ e) ]
+
+not_same : (x y : Bool) → beq x y ≡ false → x ≡ y → ⊥
+not_same true true e q = let f : true ≡ false = e in cc
+not_same true false e q = cc
+not_same false true e q = cc
+not_same false false e q = let f : true ≡ false = e in cc
+
+-- a cursor at the end of its list, and one before it
+pub through_end : (items : List ℕ) (flags : List Bool) (value : Bool) (cursor : ℕ) → HasPassed items flags value cursor → length items ≤ cursor → IsTrue (eqb cursor (length items)) ↔ EachIs flags value items
+through_end items flags value cursor h le = (λ e x c. each x c, λ f. eq-eqb cursor (length items) (let within = h.within in omega (arith, within, le)))
+  where
+    each : (x : ℕ) → Contains items x → flag_of flags x ≡ value
+    each x c = let lt = c.1 in subst (λ z. flag_of flags z ≡ value) (sym (get_or_default_zero items c.0 x lt) ∙ c.2) (h.passed c.0 (omega (arith, lt, le)))
+
+pub through_before : (items : List ℕ) (flags : List Bool) (value : Bool) (cursor : ℕ) → cursor < length items → beq (flag_of flags (slice_index_or items cursor 0)) value ≡ false → IsTrue (eqb cursor (length items)) ↔ EachIs flags value items
+through_before items flags value cursor lt e = (λ f. absurd (let q = eqb-true cursor (length items) f in omega (arith, lt, q)), λ f. absurd (not_same (flag_of flags x) value e (f x (cursor, lt, get_or_default_zero items cursor x lt))))
+  where
+    x : ℕ
+    x = slice_index_or items cursor 0
+
+-- one cursor that was moved
+pub cursors_set : (count : ℕ) (lists : List (List ℕ)) (flags : List Bool) (value : Bool) (cursors : List ℕ) (i x : ℕ) → i < count → AreCursors count lists flags value cursors → HasPassed (edges_at lists i) flags value x → AreCursors count lists flags value (slice_set cursors i x)
+cursors_set count lists flags value cursors i x lt h moved = record { long = length-set cursors i x ∙ h.long; each = each }
+  where
+    each : (n : ℕ) → n < count → HasPassed (edges_at lists n) flags value (slice_index (slice_set cursors i x) n)
+    each n small = elim (ℕ_discrete n i) [ yes q ↦ subst (λ z. HasPassed (edges_at lists z) flags value (slice_index (slice_set cursors i x) z)) (sym q) (subst (HasPassed (edges_at lists i) flags value) (sym (get_or-set_same cursors i x 0 (let long = h.long in omega (arith, lt, long)))) moved) | no d ↦ subst (HasPassed (edges_at lists n) flags value) (sym (get_or-set_other cursors i n x 0 d)) (h.each n small) ]

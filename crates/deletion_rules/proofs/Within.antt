@@ -29,6 +29,12 @@ successor_below t k n i items small e lt =
     let same : slice_index_or items i 0 ≡ slice_index_or (edges_at t.successors n) i 0 = ap (λ (l : List ℕ). slice_index_or l i 0) e in
     omega (arith, within, same)
 
+pub successor_within : (t : TableauParts) → IsTableau t → (n o : ℕ) → n < length t.ands → Contains (edges_at t.successors n) o → o < length t.ors
+successor_within t k n o small there = let all = k.all_ands in (k.rules.successors n (omega (arith, small, all))).within o there
+
+pub child_within : (t : TableauParts) → IsTableau t → (o n : ℕ) → o < length t.ors → Contains (edges_at t.children o) n → n < length t.ands
+child_within t k o n small there = let all = k.all_ors in (k.rules.children o (omega (arith, small, all))).within n there
+
 -- the OR successor for a member EXs h of the row
 pub next_below : (t : TableauParts) → IsTableau t → (n i h : ℕ) (side : Side) → n < length t.ands → part_of t.closure i ≡ Next false side h → Has (row_of (and_at t.ands n)) i → (graph_of t).next_or n i < length t.ors
 next_below t k n i h side small p has =

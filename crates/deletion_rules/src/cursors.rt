@@ -1,5 +1,8 @@
-ghost use Rattle.std.specs.Prelude.{◌≡◌, ◌<◌, ◌↔◌, ℕ, Contains, IsTrue, length};
-ghost use Rattle.deletion_rules.specs.Cursors.{flag_of, EachIs, HasPassed};
+ghost use Rattle.std.specs.Prelude.{◌≡◌, ◌<◌, ◌↔◌, ℕ, Contains, IfOk, IsTrue, length, replicate};
+ghost use Rattle.deletion_rules.specs.Cursors.{EachIs, HasPassed};
+
+use pair_structure::Memory;
+use std::alloc::Global;
 
 /// Whether the flags of all items are so. The cursor goes on to the first item of which it is not, so that over all calls each item is passed
 /// once, as long as flags that are so stay so.
@@ -13,4 +16,18 @@ pub(crate) fn is_through(items: &[u64], flags: &[bool], value: bool, cursor: &mu
         *cursor += 1;
     }
     *cursor == items.len()
+}
+
+/// So many flags.
+pub(crate) fn flags(alloc: Global, count: usize, value: bool) -> Result<Vec<bool>, Memory>
+    ensures { IfOk result (λ flags. flags.items ≡ replicate count value) }
+{
+    Ok(vec![in alloc; value; count]?)
+}
+
+/// So many cursors, all of them at the first item of their list.
+pub(crate) fn cursors(alloc: Global, count: usize) -> Result<Vec<usize>, Memory>
+    ensures { IfOk result (λ cursors. cursors.items ≡ replicate count 0) }
+{
+    Ok(vec![in alloc; 0usize; count]?)
 }

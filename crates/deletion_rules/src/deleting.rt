@@ -1,4 +1,4 @@
-ghost use Rattle.std.specs.Prelude.{◌≡◌, ◌⊎◌, ◌<◌, ℕ, true, false, Some, None, length, IfOk};
+ghost use Rattle.std.specs.Prelude.{◌≡◌, ◌⊎◌, ◌<◌, ℕ, true, false, Some, None, Contains, length, IfOk};
 ghost use Rattle.closure_sets.specs.ClosureParts.{count};
 ghost use Rattle.deletion_rules.specs.Deletion.{IsSupported};
 ghost use Rattle.deletion_rules.specs.Marks.{lists_of, lives_of, living_count, ranks_of, AreLeft, AreTable, IsLeft};

@@ -1,6 +1,7 @@
 ghost use Rattle.std.specs.Prelude.{length, IfOk};
 ghost use Rattle.deletion_rules.specs.Stable.{IsLasting};
 
+use crate::cursors::flags;
 use crate::deleting::{left_of, living_count};
 use crate::edges::Edges;
 use crate::table::table_of;
@@ -27,15 +28,13 @@ pub(crate) fn what_lasts(alloc: Global, t: &Tableau) -> Result<Lasting, Memory>
     tableau_covers();
     let edges = Edges::of(alloc, t)?;
     let untils = strong_untils(alloc, t.closure())?;
-    let mut lives = vec![in alloc; true; nodes]?;
-    thin(alloc, t, &edges, &mut lives)?;
+    let mut lives = thin(alloc, t, &edges, flags(alloc, nodes, true)?)?;
     loop {
         let table = table_of(alloc, t, &edges, &lives)?;
-        let mut left = left_of(alloc, t, &untils, &lives, &table)?;
+        let left = left_of(alloc, t, &untils, &lives, &table)?;
         if living_count(&left) == living_count(&lives) {
             return Ok(Lasting { lives, table });
         }
-        thin(alloc, t, &edges, &mut left)?;
-        lives = left;
+        lives = thin(alloc, t, &edges, left)?;
     }
 }

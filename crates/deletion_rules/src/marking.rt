@@ -1,10 +1,12 @@
-ghost use Rattle.std.specs.Prelude.{◌≡◌, ◌<◌, ◌&&◌, length, replicate, IfOk};
+ghost use Rattle.std.specs.Prelude.{◌≡◌, ◌<◌, ◌≤◌, ◌+◌, true, length, replicate, IfOk, OnOk};
+ghost use Rattle.deletion_rules.specs.Cursors.{AreCursors};
 ghost use Rattle.deletion_rules.specs.Edges.{AreEdges};
-ghost use Rattle.deletion_rules.specs.Marks.{lives_of, AreMarks};
-ghost use Rattle.deletion_rules.specs.Spread.{AreFirst};
+ghost use Rattle.deletion_rules.specs.Marks.{lives_of, open_count, AreMarks};
+ghost use Rattle.deletion_rules.specs.Spread.{AreFirst, IsSpread};
 ghost use Rattle.deletion_rules.specs.Tests.{is_met, IsGoal};
 ghost use Rattle.tableau_graph.specs.Graph.{graph_of};
 
+use crate::cursors::{cursors, flags};
 use crate::edges::Edges;
 use crate::goal::Goal;
 use crate::reaching::reach;
@@ -30,25 +32,39 @@ pub(crate) fn mark(
 {
     tableau_is_graph();
     let mut front = first_front(alloc, t, lives, goal)?;
-    let mut reached = vec![in alloc; false; t.ors().len()]?;
-    let mut round = 1;
-    while front.nodes.len() > 0 {
-        let ors = reach(alloc, &edges.parents, &front.nodes, &mut reached)?;
-        front.nodes = Vec::new(alloc);
-        visit_each(
-            t,
-            &edges.arrows,
-            lives,
-            &reached,
-            goal,
-            round,
-            &ors,
-            &mut front,
-        )?;
-        round += 1;
-    }
+    let mut reached = flags(alloc, t.ors().len(), false)?;
+    spread(alloc, t, edges, lives, goal, &mut reached, &mut front)?;
     let Front { marks, .. } = front;
     Ok(marks)
+}
+
+/// Lets the marks spread, a round at a time.
+fn spread(
+    alloc: Global,
+    t: &Tableau,
+    edges: &Edges,
+    lives: &[bool],
+    goal: Goal,
+    reached: &mut [bool],
+    front: &mut Front,
+) -> Result<(), Memory>
+    requires lives { length lives.now ≡ length t.now.ands }
+    requires edges { AreEdges t.now edges.now.parents edges.now.arrows }
+    requires goal { IsGoal t.now.closure goal }
+    requires spread { IsSpread t.now lives.now goal 1 front.old.marks.items reached.old front.old.nodes.items }
+    requires cursors { AreCursors (length t.now.ands) t.now.successors reached.old true front.old.cursors.items }
+    requires few { open_count front.old.marks.items + length front.old.nodes.items ≤ length t.now.ands }
+    ensures { OnOk result (AreMarks t.now.closure (graph_of t.now) (lives_of lives.now) goal.all goal.member goal.f goal.second front.new.marks.items) }
+{
+    let _nodes = t.ands();
+    let mut round = 0;
+    while front.nodes.len() > 0 {
+        round += 1;
+        let ors = reach(alloc, &edges.parents, &front.nodes, reached)?;
+        front.nodes = Vec::new(alloc);
+        visit_each(t, &edges.arrows, lives, reached, goal, round, &ors, front)?;
+    }
+    Ok(())
 }
 
 /// Marks the nodes where the until is met.
@@ -59,7 +75,7 @@ fn first_front(alloc: Global, t: &Tableau, lives: &[bool], goal: Goal) -> Result
     ensures cursors { IfOk result (λ front. front.cursors.items ≡ replicate (length t.now.ands) 0) }
 {
     let count = t.ands().len();
-    let cursors = vec![in alloc; 0usize; count]?;
+    let cursors = cursors(alloc, count)?;
     let mut marks = Vec::with_capacity(alloc, count)?;
     let mut nodes = Vec::new(alloc);
     for n in 0..count {
