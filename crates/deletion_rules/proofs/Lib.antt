@@ -20,6 +20,7 @@ pub mod Standing
 pub mod States
 pub mod Survive
 pub mod Tables
+pub mod ThinningLaws
 pub mod VisitLaws
 pub mod WholePlan
 pub mod Within

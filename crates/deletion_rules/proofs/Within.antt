@@ -10,7 +10,7 @@ use Rattle.tableau_graph.specs.Rules.{IsTableau}
 use Rattle.tableau_graph.specs.TableauParts.{TableauParts, and_at, edges_at, row_of}
 use Rattle.tableau_graph.specs.declared.nodes.AndNode.{AndNode}
 
-contained : (xs : List ℕ) (i : ℕ) → i < length xs → Contains xs (slice_index_or xs i 0)
+pub contained : (xs : List ℕ) (i : ℕ) → i < length xs → Contains xs (slice_index_or xs i 0)
 contained xs i lt = (i, lt, get_or_default_zero xs i (slice_index_or xs i 0) lt)
 
 pub child_below : (t : TableauParts) → IsTableau t → (o i m : ℕ) (items : List ℕ) → o < length t.ors → items ≡ edges_at t.children o → i < length items → m ≡ length t.ands → slice_index_or items i 0 < m
