@@ -1,5 +1,5 @@
 -- What is left when nothing is deleted any more is kept, with ranks; and what is met is never deleted.
-use Rattle.std.proofs.Common.{ℕ, zero, suc, ◌≡◌, ◌⊎◌, ◌<◌, ◌+◌, inl, inr, Bool, true, false, cond, Option, Some, None, List, [], ◌∷◌, length, zero-add, add_comm, refl, subst, sym, ◌∙◌, ap, arith, replicate}
+use Rattle.std.proofs.Common.{ℕ, zero, suc, ◌≡◌, ◌⊎◌, ◌<◌, ◌≤◌, ◌+◌, inl, inr, Bool, true, false, cond, Option, Some, None, List, [], ◌∷◌, length, zero-add, add_comm, refl, subst, sym, ◌∙◌, ap, arith, replicate}
 use Rattle.std.specs.Global.{Vec}
 use Rattle.std.proofs.lemmas.Bool.{cases_lt}
 use Rattle.std.proofs.lemmas.List.{get_or_past, get_or-replicate}
@@ -19,6 +19,7 @@ use Rattle.deletion_rules.specs.Marks.{lists_of, lives_of, living_count, mark_at
 use Rattle.deletion_rules.specs.Met.{Meets, MetLive}
 use Rattle.deletion_rules.specs.Pruned.{IsUnsatisfiable}
 use Rattle.deletion_rules.specs.Stable.{IsLasting}
+use Rattle.deletion_rules.specs.Thinning.{IsThinned}
 use Rattle.deletion_rules.proofs.Removal.{removal_keeps_met, dead_is_unsatisfiable}
 use Rattle.deletion_rules.proofs.Standing.{flag_within}
 
@@ -141,3 +142,7 @@ module _ (t : TableauParts) (k : IsTableau t) (lives left first second : List Bo
 
     pub round_last : a ≡ b → IsLasting t lives table
     round_last same = record { long = long; kept = left_kept t lives left (lists_of table) long marks rest a b v w e p f q same; met = live }
+
+-- fewer nodes, at most as many
+pub living_at_most : (t : TableauParts) (lives left : List Bool) → IsThinned t lives left → living_count left ≤ living_count lives
+living_at_most t lives left h = elim (living_falls lives left (sym h.long) h.within) [ inl x ↦ omega (arith, x) | inr s ↦ (let e = s.0 in omega (arith, e)) ]
