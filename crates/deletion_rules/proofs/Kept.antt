@@ -1,5 +1,5 @@
 -- What is left when nothing is deleted any more is kept, with ranks; and what is met is never deleted.
-use Rattle.std.proofs.Common.{ℕ, zero, suc, ◌≡◌, ◌⊎◌, ◌<◌, ◌+◌, inl, inr, Bool, true, false, cond, Option, Some, None, List, [], ◌∷◌, length, zero-add, add_comm, refl, subst, sym, ◌∙◌, ap, arith, replicate}
+use Rattle.std.proofs.Common.{ℕ, zero, suc, ◌≡◌, ◌⊎◌, ◌<◌, ◌≤◌, ◌+◌, inl, inr, Bool, true, false, cond, Option, Some, None, List, [], ◌∷◌, length, zero-add, add_comm, refl, subst, sym, ◌∙◌, ap, arith, replicate}
 use Rattle.std.specs.Global.{Vec}
 use Rattle.std.proofs.lemmas.Bool.{cases_lt}
 use Rattle.std.proofs.lemmas.List.{get_or_past, get_or-replicate}
@@ -19,8 +19,9 @@ use Rattle.deletion_rules.specs.Marks.{lists_of, lives_of, living_count, mark_at
 use Rattle.deletion_rules.specs.Met.{Meets, MetLive}
 use Rattle.deletion_rules.specs.Pruned.{IsUnsatisfiable}
 use Rattle.deletion_rules.specs.Stable.{IsLasting}
+use Rattle.deletion_rules.specs.Thinning.{IsThinned}
 use Rattle.deletion_rules.proofs.Removal.{removal_keeps_met, dead_is_unsatisfiable}
-use Rattle.deletion_rules.proofs.Sweeps.{living_within}
+use Rattle.deletion_rules.proofs.Standing.{flag_within}
 
 abbrev Within : List Bool → List Bool → Type 0
 Within xs ys = (n : ℕ) → lives_of xs n ≡ true → lives_of ys n ≡ true
@@ -80,7 +81,7 @@ rank_strong c g lives u n r marks part p h e = by part p
 
 module _ (t : TableauParts) (lives left : List Bool) (table : List (List (Option ℕ))) (long : length lives ≡ length t.ands) (h : AreTable t.closure (graph_of t) (lives_of lives) (count t.closure) table) (l : AreLeft t.closure (graph_of t) (lives_of lives) table (length t.ands) left) where
   left_within : (n : ℕ) → lives_of left n ≡ true → n < length t.ands
-  left_within n e = let lt = living_within left n e in let q = l.long in omega (arith, lt, q)
+  left_within n e = let lt = flag_within left n e in let q = l.long in omega (arith, lt, q)
 
   fewer : Within left lives
   fewer n e = (l.stays n (left_within n e) e).living
@@ -110,7 +111,7 @@ module _ (t : TableauParts) (lives left : List Bool) (table : List (List (Option
 
     pub left_kept : IsKept t.closure (graph_of t) (lives_of lives) (ranks_of table)
     left_kept = record {
-      nodes = λ n x. let lt = living_within lives n x in omega (arith, lt, long);
+      nodes = λ n x. let lt = flag_within lives n x in omega (arith, lt, long);
       successors = λ n i h' side x some. (is_left n x).successors i h' side some;
       ranks = record { some = ranked; only = only };
     }
@@ -141,3 +142,7 @@ module _ (t : TableauParts) (k : IsTableau t) (lives left first second : List Bo
 
     pub round_last : a ≡ b → IsLasting t lives table
     round_last same = record { long = long; kept = left_kept t lives left (lists_of table) long marks rest a b v w e p f q same; met = live }
+
+-- fewer nodes, at most as many
+pub living_at_most : (t : TableauParts) (lives left : List Bool) → IsThinned t lives left → living_count left ≤ living_count lives
+living_at_most t lives left h = elim (living_falls lives left (sym h.long) h.within) [ inl x ↦ omega (arith, x) | inr s ↦ (let e = s.0 in omega (arith, e)) ]

@@ -1,6 +1,7 @@
 pub mod Best
 pub mod Choice
 pub mod Descent
+pub mod EdgeLaws
 pub mod Existence
 pub mod FromPositions
 pub mod Kept
@@ -9,14 +10,18 @@ pub mod MoveList
 pub mod Pending
 pub mod Picks
 pub mod Plain
+pub mod ReachingLaws
 pub mod Removal
 pub mod Rows
 pub mod Satisfied
 pub mod Searches
 pub mod Seen
+pub mod SpreadLaws
+pub mod Standing
 pub mod States
 pub mod Survive
-pub mod Sweeps
 pub mod Tables
+pub mod ThinningLaws
+pub mod VisitLaws
 pub mod WholePlan
 pub mod Within

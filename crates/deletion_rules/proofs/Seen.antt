@@ -1,25 +1,22 @@
--- What the tests of the code say in the words of the rules.
+-- What the tests of the code say of children and successors in the words of the rules.
 use Rattle.std.proofs.Common.{ℕ, zero, suc, ◌≡◌, ◌⊎◌, ◌<◌, inl, inr, Bool, true, false, ◌||◌, ◌&&◌, cond, nat_lt, Option, Some, None, List, [], ◌∷◌, Contains, length, refl, subst, sym, ◌∙◌, ap, arith, slice_index_or}
 use Rattle.std.specs.List.{list_any, list_all}
 use Rattle.std.proofs.Math.Decide.{dec_lt}
-use Rattle.std.proofs.lemmas.Bool.{lt-ltb, ltb-true}
 use Rattle.std.proofs.lemmas.Grind.{get_or_default_zero}
 use Rattle.pair_structure.specs.declared.side.Side.{Side}
-use Rattle.pair_structure.specs.declared.side.Side.TheVariants.{A, B}
 use Rattle.ctl_form.specs.declared.part.Part.{Part}
 use Rattle.ctl_form.specs.declared.part.Part.TheVariants.{Yes, No, Lit, Both, Either, Next, Until}
-use Rattle.closure_sets.specs.ClosureParts.{ClosureParts, after, count}
-use Rattle.closure_sets.specs.Full.{Has}
+use Rattle.closure_sets.specs.ClosureParts.{ClosureParts, count}
 use Rattle.closure_sets.specs.Label.{part_of}
 use Rattle.closure_sets.specs.Row.{Members}
-use Rattle.closure_sets.proofs.Closures.{after_part}
 use Rattle.tableau_graph.specs.Graph.{Graph, graph_of, IsSomeNext}
 use Rattle.tableau_graph.specs.Rules.{IsTableau}
 use Rattle.tableau_graph.specs.TableauParts.{TableauParts, and_at, edges_at, row_of, is_some_next, one_more, somes_below}
-use Rattle.deletion_rules.specs.Deletion.{SomeChild, LivesOr, HasLower, Falls}
-use Rattle.deletion_rules.specs.Marks.{lives_of, mark_at, rank_of, IsSeen}
-use Rattle.deletion_rules.specs.Tests.{is_below, is_lower, has_lower, each_lower, has_member, side_lower, some_lower, is_falling, is_seen, lives_or, lives_on, IsGoal}
-use Rattle.deletion_rules.specs.declared.goal.Goal.{Goal}
+use Rattle.deletion_rules.specs.Cursors.{flag_of}
+use Rattle.deletion_rules.specs.Deletion.{LivesOr}
+use Rattle.deletion_rules.specs.Marks.{lives_of}
+use Rattle.deletion_rules.specs.Tests.{lives_or, lives_on, AreLivingOrs}
+use Rattle.deletion_rules.proofs.Within.{successor_within}
 
 pub both_of : (a b : Bool) → a && b ≡ true → (a ≡ true) × (b ≡ true)
 both_of true b e = (refl, e)
@@ -64,15 +61,8 @@ pub all_in : (p : ℕ → Bool) (xs : List ℕ) → ((x : ℕ) → Contains xs x
 all_in p [] h = refl
 all_in p (y ∷ xs) h = of_both (p y) (list_all p xs) (h y (0, omega arith, refl)) (all_in p xs (λ x c. h x (suc c.0, omega (arith, c.1), c.2)))
 
-below_out : (round : ℕ) (mark : Option ℕ) → is_below round mark ≡ true → (j : ℕ) × (mark ≡ Some j) × (j < round)
-below_out round None e = absurd (let f : false ≡ true = e in cc)
-below_out round (Some r) e = (r, refl, ltb-true r round e)
-
-below_in : (round : ℕ) (mark : Option ℕ) (j : ℕ) → mark ≡ Some j → j < round → is_below round mark ≡ true
-below_in round mark j e lt = subst (λ (m : Option ℕ). is_below round m ≡ true) (sym e) (lt-ltb j round lt)
-
 -- members EXs h of the row, counted, name each place among the successors
-next_of_part : (part : Part) → is_some_next part ≡ true → (h : ℕ) × (side : Side) × (part ≡ Next false side h)
+pub next_of_part : (part : Part) → is_some_next part ≡ true → (h : ℕ) × (side : Side) × (part ≡ Next false side h)
 next_of_part (Next false side h) e = (h, side, refl)
 next_of_part (Next true side h) e = absurd (let f : false ≡ true = e in cc)
 next_of_part Yes e = absurd (let f : false ≡ true = e in cc)
@@ -93,12 +83,12 @@ place_hit : (c : ClosureParts) (row : Members) (n k : ℕ) → k < somes_below c
 place_hit c row zero k lt = absurd (omega (arith, lt))
 place_hit c row (suc n) k lt = hit_last c row n k (row n && is_some_next (part_of c n)) refl lt (λ l. place_hit c row n k l)
 
-module _ (t : TableauParts) (k : IsTableau t) (lives : List Bool) where
+module _ (t : TableauParts) (k : IsTableau t) where
   abbrev g : Graph
   g = graph_of t
 
   -- a successor of the list belongs to some EXs h of the row
-  successor_hit : (n o : ℕ) → n < length t.ands → Contains (edges_at t.successors n) o → (i : ℕ) × (h : ℕ) × (side : Side) × IsSomeNext t.closure g n i side h × (g.next_or n i ≡ o)
+  pub successor_hit : (n o : ℕ) → n < length t.ands → Contains (edges_at t.successors n) o → (i : ℕ) × (h : ℕ) × (side : Side) × IsSomeNext t.closure g n i side h × (g.next_or n i ≡ o)
   successor_hit n o small there =
       let all = k.all_ands in
       let s = k.rules.successors n (omega (arith, small, all)) in
@@ -110,62 +100,20 @@ module _ (t : TableauParts) (k : IsTableau t) (lives : List Bool) where
       (u.0, p.0, p.1, record { node = small; member = b.0; part = p.2 }, ap (λ x. slice_index_or (edges_at t.successors n) x 0) u.2 ∙ z)
 
   -- and the other way round
-  successor_there : (n i h : ℕ) (side : Side) → IsSomeNext t.closure g n i side h → Contains (edges_at t.successors n) (g.next_or n i)
+  pub successor_there : (n i h : ℕ) (side : Side) → IsSomeNext t.closure g n i side h → Contains (edges_at t.successors n) (g.next_or n i)
   successor_there n i h side some = let small = some.node in let all = k.all_ands in ((k.rules.successors n (omega (arith, small, all))).each i h side some.part some.member).0
 
-  pub lives_or_out : (o : ℕ) → lives_or t lives o ≡ true → LivesOr g (lives_of lives) o
+module _ (t : TableauParts) (k : IsTableau t) (lives : List Bool) where
+  pub lives_or_out : (o : ℕ) → lives_or t lives o ≡ true → LivesOr (graph_of t) (lives_of lives) o
   lives_or_out o e = let u = any_out (lives_of lives) (edges_at t.children o) e in (u.0, u.1, u.2, tt)
 
-  pub lives_or_in : (o : ℕ) → LivesOr g (lives_of lives) o → lives_or t lives o ≡ true
+  pub lives_or_in : (o : ℕ) → LivesOr (graph_of t) (lives_of lives) o → lives_or t lives o ≡ true
   lives_or_in o h = any_in (lives_of lives) (edges_at t.children o) h.0 h.1 h.2
 
-  pub lives_on_out : (n : ℕ) → lives_on t lives n ≡ true → (i h : ℕ) (side : Side) → IsSomeNext t.closure g n i side h → LivesOr g (lives_of lives) (g.next_or n i)
-  lives_on_out n e i h side some = lives_or_out (g.next_or n i) (all_out (lives_or t lives) (edges_at t.successors n) e (g.next_or n i) (successor_there n i h side some))
+  -- the same, by a list of the OR nodes that have a living child
+  module _ (ors : List Bool) (h : AreLivingOrs t lives (length t.ors) ors) where
+    pub lives_on_out : (n : ℕ) → n < length t.ands → lives_on t ors n ≡ true → (i h : ℕ) (side : Side) → IsSomeNext t.closure (graph_of t) n i side h → LivesOr (graph_of t) (lives_of lives) ((graph_of t).next_or n i)
+    lives_on_out n small e i j side some = let there = successor_there t k n i j side some in let o = (graph_of t).next_or n i in lives_or_out o (sym (h.each o (successor_within t k n o small there)) ∙ all_out (flag_of ors) (edges_at t.successors n) e o there)
 
-  pub lives_on_in : (n : ℕ) → n < length t.ands → ((i h : ℕ) (side : Side) → IsSomeNext t.closure g n i side h → LivesOr g (lives_of lives) (g.next_or n i)) → lives_on t lives n ≡ true
-  lives_on_in n small h = all_in (lives_or t lives) (edges_at t.successors n) (λ o there. let u = successor_hit n o small there in subst (λ x. lives_or t lives x ≡ true) u.4 (lives_or_in (g.next_or n u.0) (h u.0 u.1 u.2 u.3)))
-
-  module _ (marks : List (Option ℕ)) (round : ℕ) where
-    lower_out : (o u : ℕ) → has_lower t lives marks round o ≡ true → HasLower g (lives_of lives) (rank_of marks) u round o
-    lower_out o u e = let v = any_out (is_lower lives marks round) (edges_at t.children o) e in let b = both_of (lives_of lives v.0) (is_below round (mark_at marks v.0)) v.2 in (v.0, v.1, b.0, below_out round (mark_at marks v.0) b.1)
-
-    lower_in : (o u : ℕ) → HasLower g (lives_of lives) (rank_of marks) u round o → has_lower t lives marks round o ≡ true
-    lower_in o u h = let m = h.3 in any_in (is_lower lives marks round) (edges_at t.children o) h.0 h.1 (of_both (lives_of lives h.0) (is_below round (mark_at marks h.0)) h.2 (below_in round (mark_at marks h.0) m.0 m.1 m.2))
-
-    each_out : (n u : ℕ) → each_lower t lives marks round n ≡ true → (i h : ℕ) (side : Side) → IsSomeNext t.closure g n i side h → HasLower g (lives_of lives) (rank_of marks) u round (g.next_or n i)
-    each_out n u e i h side some = lower_out (g.next_or n i) u (all_out (has_lower t lives marks round) (edges_at t.successors n) e (g.next_or n i) (successor_there n i h side some))
-
-    each_in : (n u : ℕ) → n < length t.ands → ((i h : ℕ) (side : Side) → IsSomeNext t.closure g n i side h → HasLower g (lives_of lives) (rank_of marks) u round (g.next_or n i)) → each_lower t lives marks round n ≡ true
-    each_in n u small h = all_in (has_lower t lives marks round) (edges_at t.successors n) (λ o there. let v = successor_hit n o small there in subst (λ x. has_lower t lives marks round x ≡ true) v.4 (lower_in (g.next_or n v.0) u (h v.0 v.1 v.2 v.3)))
-
-    abbrev OnSome : ℕ → ℕ → Type 0
-    OnSome n u = (side : Side) × Has (g.row n) (after t.closure side u) × HasLower g (lives_of lives) (rank_of marks) u round (g.next_or n (after t.closure side u))
-
-    side_out : (n u : ℕ) (side : Side) → side_lower t lives marks round n u side ≡ true → OnSome n u
-    side_out n u side e = let b = both_of (has_member t n (after t.closure side u)) (has_lower t lives marks round (g.next_or n (after t.closure side u))) e in (side, b.0, lower_out (g.next_or n (after t.closure side u)) u b.1)
-
-    some_out : (n u : ℕ) → some_lower t lives marks round n u ≡ true → OnSome n u
-    some_out n u e = elim (either_of (side_lower t lives marks round n u A) (side_lower t lives marks round n u B) e) [ inl f ↦ side_out n u A f | inr f ↦ side_out n u B f ]
-
-    some_in : (n u : ℕ) → OnSome n u → some_lower t lives marks round n u ≡ true
-    some_in n u (A, has, low) = of_left (side_lower t lives marks round n u A) (side_lower t lives marks round n u B) (of_both (has_member t n (after t.closure A u)) (has_lower t lives marks round (g.next_or n (after t.closure A u))) has (lower_in (g.next_or n (after t.closure A u)) u low))
-    some_in n u (B, has, low) = of_right (side_lower t lives marks round n u A) (side_lower t lives marks round n u B) (of_both (has_member t n (after t.closure B u)) (has_lower t lives marks round (g.next_or n (after t.closure B u))) has (lower_in (g.next_or n (after t.closure B u)) u low))
-
-    falling_out : (all : Bool) (u f second n : ℕ) → has_member t n second || (has_member t n f && cond all (each_lower t lives marks round n) (some_lower t lives marks round n u)) ≡ true → Falls t.closure g (lives_of lives) (rank_of marks) all u f second round n
-    falling_out true u f second n e = elim (either_of (has_member t n second) (has_member t n f && each_lower t lives marks round n) e) [ inl y ↦ inl y | inr y ↦ (let b = both_of (has_member t n f) (each_lower t lives marks round n) y in inr (b.0, each_out n u b.1)) ]
-    falling_out false u f second n e = elim (either_of (has_member t n second) (has_member t n f && some_lower t lives marks round n u) e) [ inl y ↦ inl y | inr y ↦ (let b = both_of (has_member t n f) (some_lower t lives marks round n u) y in inr (b.0, some_out n u b.1)) ]
-
-    falling_in : (all : Bool) (u f second n : ℕ) → n < length t.ands → Falls t.closure g (lives_of lives) (rank_of marks) all u f second round n → has_member t n second || (has_member t n f && cond all (each_lower t lives marks round n) (some_lower t lives marks round n u)) ≡ true
-    falling_in true u f second n small (inl y) = of_left (has_member t n second) (has_member t n f && each_lower t lives marks round n) y
-    falling_in true u f second n small (inr v) = of_right (has_member t n second) (has_member t n f && each_lower t lives marks round n) (of_both (has_member t n f) (each_lower t lives marks round n) v.0 (each_in n u small v.1))
-    falling_in false u f second n small (inl y) = of_left (has_member t n second) (has_member t n f && some_lower t lives marks round n u) y
-    falling_in false u f second n small (inr v) = of_right (has_member t n second) (has_member t n f && some_lower t lives marks round n u) (of_both (has_member t n f) (some_lower t lives marks round n u) v.0 (some_in n u v.1))
-
-    pub seen_out : (goal : Goal) (n : ℕ) → is_seen t lives marks round goal n ≡ true → IsSeen t.closure g (lives_of lives) marks goal.all goal.member goal.f goal.second round n
-    seen_out goal n e =
-        let a = both_of (lives_of lives n) (has_member t n goal.member && is_falling t lives marks round goal n) e in
-        let b = both_of (has_member t n goal.member) (is_falling t lives marks round goal n) a.1 in
-        record { living = a.0; member = b.0; falls = falling_out goal.all goal.member goal.f goal.second n b.1 }
-
-    pub seen_in : (goal : Goal) (n : ℕ) → n < length t.ands → IsSeen t.closure g (lives_of lives) marks goal.all goal.member goal.f goal.second round n → is_seen t lives marks round goal n ≡ true
-    seen_in goal n small h = of_both (lives_of lives n) (has_member t n goal.member && is_falling t lives marks round goal n) h.living (of_both (has_member t n goal.member) (is_falling t lives marks round goal n) h.member (falling_in goal.all goal.member goal.f goal.second n small h.falls))
+    pub lives_on_in : (n : ℕ) → n < length t.ands → ((i h : ℕ) (side : Side) → IsSomeNext t.closure (graph_of t) n i side h → LivesOr (graph_of t) (lives_of lives) ((graph_of t).next_or n i)) → lives_on t ors n ≡ true
+    lives_on_in n small f = all_in (flag_of ors) (edges_at t.successors n) (λ o there. let u = successor_hit t k n o small there in h.each o (successor_within t k n o small there) ∙ subst (λ x. lives_or t lives x ≡ true) u.4 (lives_or_in ((graph_of t).next_or n u.0) (f u.0 u.1 u.2 u.3)))

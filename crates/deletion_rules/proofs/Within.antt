@@ -10,7 +10,7 @@ use Rattle.tableau_graph.specs.Rules.{IsTableau}
 use Rattle.tableau_graph.specs.TableauParts.{TableauParts, and_at, edges_at, row_of}
 use Rattle.tableau_graph.specs.declared.nodes.AndNode.{AndNode}
 
-contained : (xs : List ℕ) (i : ℕ) → i < length xs → Contains xs (slice_index_or xs i 0)
+pub contained : (xs : List ℕ) (i : ℕ) → i < length xs → Contains xs (slice_index_or xs i 0)
 contained xs i lt = (i, lt, get_or_default_zero xs i (slice_index_or xs i 0) lt)
 
 pub child_below : (t : TableauParts) → IsTableau t → (o i m : ℕ) (items : List ℕ) → o < length t.ors → items ≡ edges_at t.children o → i < length items → m ≡ length t.ands → slice_index_or items i 0 < m
@@ -28,6 +28,12 @@ successor_below t k n i items small e lt =
     let within : slice_index_or (edges_at t.successors n) i 0 < length t.ors = (k.rules.successors n (omega (arith, small, all))).within (slice_index_or (edges_at t.successors n) i 0) (contained (edges_at t.successors n) i lt') in
     let same : slice_index_or items i 0 ≡ slice_index_or (edges_at t.successors n) i 0 = ap (λ (l : List ℕ). slice_index_or l i 0) e in
     omega (arith, within, same)
+
+pub successor_within : (t : TableauParts) → IsTableau t → (n o : ℕ) → n < length t.ands → Contains (edges_at t.successors n) o → o < length t.ors
+successor_within t k n o small there = let all = k.all_ands in (k.rules.successors n (omega (arith, small, all))).within o there
+
+pub child_within : (t : TableauParts) → IsTableau t → (o n : ℕ) → o < length t.ors → Contains (edges_at t.children o) n → n < length t.ands
+child_within t k o n small there = let all = k.all_ors in (k.rules.children o (omega (arith, small, all))).within n there
 
 -- the OR successor for a member EXs h of the row
 pub next_below : (t : TableauParts) → IsTableau t → (n i h : ℕ) (side : Side) → n < length t.ands → part_of t.closure i ≡ Next false side h → Has (row_of (and_at t.ands n)) i → (graph_of t).next_or n i < length t.ors

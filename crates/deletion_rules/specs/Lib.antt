@@ -1,5 +1,8 @@
+pub mod Cursors
 pub mod Deletion
+pub mod Edges
 pub mod Laws
+pub mod Lists
 pub mod Marks
 pub mod Met
 pub mod Outcome
@@ -7,6 +10,8 @@ pub mod Picking
 pub mod PositionOrder
 pub mod Pruned
 pub mod Satisfying
+pub mod Spread
 pub mod Stable
 pub mod Tests
+pub mod Thinning
 pub mod Unravel

@@ -27,17 +27,6 @@ pub record IsSeen (c : ClosureParts) (g : Graph) (lives : ℕ → Bool) (marks :
   pub member : Has (g.row n) u
   pub falls : Falls c g lives (rank_of marks) all u f second round n
 
--- a mark of the next round: the one that the node had, or the round, where the until is seen to be fulfilled
-pub record IsNextMark (c : ClosureParts) (g : Graph) (lives : ℕ → Bool) (marks : List (Option ℕ)) (all : Bool) (u f second round n : ℕ) (next : Option ℕ) : Type 0 where
-  pub kept : (r : ℕ) → mark_at marks n ≡ Some r → next ≡ Some r
-  pub added : (r : ℕ) → next ≡ Some r → (mark_at marks n ≡ Some r) ⊎ ((r ≡ round) × IsSeen c g lives marks all u f second round n)
-  pub full : IsSeen c g lives marks all u f second round n → (r : ℕ) × (next ≡ Some r)
-
--- the marks of the next round, of the first nodes
-pub record AreNextMarks (c : ClosureParts) (g : Graph) (lives : ℕ → Bool) (marks : List (Option ℕ)) (all : Bool) (u f second round k : ℕ) (next : List (Option ℕ)) : Type 0 where
-  pub long : length next ≡ k
-  pub each : (n : ℕ) → n < k → IsNextMark c g lives marks all u f second round n (mark_at next n)
-
 -- marks that were made in rounds before this one
 pub record AreSound (c : ClosureParts) (g : Graph) (lives : ℕ → Bool) (all : Bool) (u f second round : ℕ) (marks : List (Option ℕ)) : Type 0 where
   pub long : length marks ≡ g.ands

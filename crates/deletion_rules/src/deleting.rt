@@ -1,11 +1,10 @@
-ghost use Rattle.std.specs.Prelude.{◌≡◌, ◌⊎◌, ◌<◌, ℕ, true, false, Some, None, length, IfOk};
+ghost use Rattle.std.specs.Prelude.{◌≡◌, ◌⊎◌, ◌<◌, ℕ, true, false, Some, None, Contains, length, IfOk};
 ghost use Rattle.closure_sets.specs.ClosureParts.{count};
 ghost use Rattle.deletion_rules.specs.Deletion.{IsSupported};
 ghost use Rattle.deletion_rules.specs.Marks.{lists_of, lives_of, living_count, ranks_of, AreLeft, AreTable, IsLeft};
-ghost use Rattle.deletion_rules.specs.Tests.{is_missing, is_strong, lives_on, lives_or};
+ghost use Rattle.deletion_rules.specs.Tests.{is_missing, lives_on, lives_or, AreLivingOrs, AreStrongs};
 ghost use Rattle.tableau_graph.specs.Graph.{graph_of};
 
-use ctl_form::Part;
 use pair_structure::Memory;
 use std::alloc::Global;
 use tableau_graph::{Tableau, tableau_is_graph};
@@ -25,29 +24,32 @@ pub(crate) fn lives_or(t: &Tableau, lives: &[bool], or: u64) -> bool
     false
 }
 
+/// Whether each OR node has a living child. Linear in the OR nodes and their children.
+fn living_ors(alloc: Global, t: &Tableau, lives: &[bool]) -> Result<Vec<bool>, Memory>
+    requires { length lives.now ≡ length t.now.ands }
+    ensures { IfOk result (λ ors. AreLivingOrs t.now lives.now (length t.now.ors) ors.items) }
+{
+    let count = t.ors().len();
+    let mut ors = Vec::with_capacity(alloc, count)?;
+    for or in 0..count {
+        ors.push(lives_or(t, lives, or as u64))?;
+    }
+    Ok(ors)
+}
+
 /// Whether each OR successor has a living child.
-fn lives_on(t: &Tableau, lives: &[bool], n: u64) -> bool
+fn lives_on(t: &Tableau, ors: &[bool], n: u64) -> bool
     requires n { n < length t.now.ands }
-    requires lives { length lives.now ≡ length t.now.ands }
-    ensures { result ≡ lives_on t.now lives.now n }
+    requires ors { length ors.now ≡ length t.now.ors }
+    ensures { result ≡ lives_on t.now ors.now n }
 {
     let _nodes = t.ands();
     for or in t.successors(n) {
-        if !lives_or(t, lives, *or) {
+        if !ors[*or as usize] {
             return false;
         }
     }
     true
-}
-
-fn is_strong(part: Part) -> bool
-    ensures { result ≡ is_strong part }
-{
-    match part {
-        Part::Until { weak: true, .. } => false,
-        Part::Until { weak: false, .. } => true,
-        _ => false,
-    }
 }
 
 /// The rank of a member at a node, by the table of marks.
@@ -58,37 +60,44 @@ pub(crate) fn rank_at(table: &[Vec<Option<u64>>], n: u64, member: u32) -> Option
     *marks.get(n as usize)?
 }
 
-/// Whether the member is a strong until of the node's row that has no mark.
+/// Whether the member is in the node's row and has no mark there.
 fn is_missing(t: &Tableau, table: &[Vec<Option<u64>>], n: u64, member: u32) -> bool
     requires n { n < length t.now.ands }
     requires member { member < count t.now.closure }
     ensures { result ≡ is_missing t.now (lists_of table.now) n member }
 {
     let _few = t.closure().count();
-    if !t.ands()[n as usize].row.has(member) {
-        return false;
-    }
-    is_strong(t.closure().part(member)) && rank_at(table, n, member).is_none()
+    t.ands()[n as usize].row.has(member) && rank_at(table, n, member).is_none()
 }
 
 /// A strong until of the node's row that has no mark.
-fn first_missing(t: &Tableau, table: &[Vec<Option<u64>>], n: u64) -> Option<u32>
+fn first_missing(t: &Tableau, untils: &[u32], table: &[Vec<Option<u64>>], n: u64) -> Option<u32>
     requires n { n < length t.now.ands }
-    ensures some { (u : ℕ) → result ≡ Some u → (u < count t.now.closure) × (is_missing t.now (lists_of table.now) n u ≡ true) }
-    ensures none { result ≡ None → (u : ℕ) → u < count t.now.closure → is_missing t.now (lists_of table.now) n u ≡ false }
+    requires untils { (u : ℕ) → Contains untils.now u → u < count t.now.closure }
+    ensures some { (u : ℕ) → result ≡ Some u → Contains untils.now u × (is_missing t.now (lists_of table.now) n u ≡ true) }
+    ensures none { result ≡ None → (u : ℕ) → Contains untils.now u → is_missing t.now (lists_of table.now) n u ≡ false }
 {
-    for member in 0..t.closure().count() {
-        if is_missing(t, table, n, member) {
-            return Some(member);
+    for until in untils {
+        if is_missing(t, table, n, *until) {
+            return Some(*until);
         }
     }
     None
 }
 
 /// Whether no rule deletes the node.
-fn stays(t: &Tableau, lives: &[bool], table: &[Vec<Option<u64>>], n: u64) -> bool
+fn stays(
+    t: &Tableau,
+    untils: &[u32],
+    lives: &[bool],
+    ors: &[bool],
+    table: &[Vec<Option<u64>>],
+    n: u64,
+) -> bool
     requires n { n < length t.now.ands }
+    requires untils { AreStrongs t.now.closure (count t.now.closure) untils.now }
     requires lives { length lives.now ≡ length t.now.ands }
+    requires ors { AreLivingOrs t.now lives.now (length t.now.ors) ors.now }
     requires table { AreTable t.now.closure (graph_of t.now) (lives_of lives.now) (count t.now.closure) (lists_of table.now) }
     ensures left { result ≡ true → IsLeft t.now.closure (graph_of t.now) (lives_of lives.now) (lists_of table.now) n }
     ensures gone { result ≡ false → (lives_of lives.now n ≡ false) ⊎ (IsSupported t.now.closure (graph_of t.now) (lives_of lives.now) n → ⊥) }
@@ -98,30 +107,33 @@ fn stays(t: &Tableau, lives: &[bool], table: &[Vec<Option<u64>>], n: u64) -> boo
     if !lives[n as usize] {
         return false;
     }
-    if !lives_on(t, lives, n) {
+    if !lives_on(t, ors, n) {
         return false;
     }
-    match first_missing(t, table, n) {
+    match first_missing(t, untils, table, n) {
         Some(_) => false,
         None => true,
     }
 }
 
-/// The nodes that no rule deletes.
+/// The nodes that no rule deletes. Linear in nodes and edges, and in the strong untils for each node.
 pub(crate) fn left_of(
     alloc: Global,
     t: &Tableau,
+    untils: &[u32],
     lives: &[bool],
     table: &[Vec<Option<u64>>],
 ) -> Result<Vec<bool>, Memory>
+    requires untils { AreStrongs t.now.closure (count t.now.closure) untils.now }
     requires lives { length lives.now ≡ length t.now.ands }
     requires table { AreTable t.now.closure (graph_of t.now) (lives_of lives.now) (count t.now.closure) (lists_of table.now) }
     ensures { IfOk result (λ left. AreLeft t.now.closure (graph_of t.now) (lives_of lives.now) (lists_of table.now) (length t.now.ands) left.items) }
 {
     let nodes = t.ands().len();
+    let ors = living_ors(alloc, t, lives)?;
     let mut left = Vec::with_capacity(alloc, nodes)?;
     for n in 0..nodes {
-        left.push(stays(t, lives, table, n as u64))?;
+        left.push(stays(t, untils, lives, &ors, table, n as u64))?;
     }
     Ok(left)
 }

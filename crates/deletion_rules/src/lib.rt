@@ -1,18 +1,24 @@
 //! Deletion of nodes of a tableau, with ranks, and the law of what is unravelled from those that are left.
 #![tactic(auto)]
 
+mod cursors;
 mod deleting;
-mod falling;
+mod edges;
 mod goal;
 mod lasting;
 mod laws;
+mod lists;
 mod marking;
 mod position;
 mod pruning;
 mod ranks;
+mod reaching;
 mod table;
 #[cfg(test)]
 mod tests;
+mod thinning;
+mod untils;
+mod visiting;
 
 pub use laws::{
     dead_is_unsatisfiable, kept_is_satisfiable, met_are_supported, ranks_are_bounded,

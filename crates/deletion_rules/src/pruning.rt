@@ -18,8 +18,8 @@ pub enum Pruned {
     Dead,
 }
 
-/// Deletes nodes until the rules delete nothing (Emerson and Clarke 1982). Each round is linear in nodes and edges for each strong until and
-/// each rank.
+/// Deletes nodes until the rules delete nothing (Emerson and Clarke 1982). Each round is linear in nodes and edges for each strong until; after
+/// one come all deletions that follow from a successor that is gone.
 pub fn prune(alloc: Global, t: Tableau) -> Result<Pruned, Memory>
     ensures { IfOk result (IsPruned t) }
 {

@@ -1,8 +1,10 @@
 ghost use Rattle.std.specs.Prelude.{◌≡◌, ◌<◌, length, IfOk};
 ghost use Rattle.closure_sets.specs.ClosureParts.{count};
+ghost use Rattle.deletion_rules.specs.Edges.{AreEdges};
 ghost use Rattle.deletion_rules.specs.Marks.{lists_of, lives_of, AreMarksOf, AreTable};
 ghost use Rattle.tableau_graph.specs.Graph.{graph_of};
 
+use crate::edges::Edges;
 use crate::goal::Goal;
 use crate::marking::mark;
 use ctl_form::Part;
@@ -14,9 +16,11 @@ use tableau_graph::Tableau;
 fn marks_of(
     alloc: Global,
     t: &Tableau,
+    edges: &Edges,
     lives: &[bool],
     member: u32,
 ) -> Result<Vec<Option<u64>>, Memory>
+    requires edges { AreEdges t.now edges.now.parents edges.now.arrows }
     requires lives { length lives.now ≡ length t.now.ands }
     requires member { member < count t.now.closure }
     ensures { IfOk result (λ marks. AreMarksOf t.now.closure (graph_of t.now) (lives_of lives.now) member marks.items) }
@@ -37,23 +41,25 @@ fn marks_of(
         f,
         second: g,
     };
-    let marks = mark(alloc, t, lives, goal)?;
+    let marks = mark(alloc, t, edges, lives, goal)?;
     Ok(marks)
 }
 
-/// The marks of each member.
+/// The marks of each member. Linear in nodes and edges for each strong until.
 pub(crate) fn table_of(
     alloc: Global,
     t: &Tableau,
+    edges: &Edges,
     lives: &[bool],
 ) -> Result<Vec<Vec<Option<u64>>>, Memory>
+    requires edges { AreEdges t.now edges.now.parents edges.now.arrows }
     requires lives { length lives.now ≡ length t.now.ands }
     ensures { IfOk result (λ table. AreTable t.now.closure (graph_of t.now) (lives_of lives.now) (count t.now.closure) (lists_of table.items)) }
 {
     let members = t.closure().count();
     let mut table = Vec::with_capacity(alloc, members as usize)?;
     for member in 0..members {
-        table.push(marks_of(alloc, t, lives, member)?)?;
+        table.push(marks_of(alloc, t, edges, lives, member)?)?;
     }
     Ok(table)
 }

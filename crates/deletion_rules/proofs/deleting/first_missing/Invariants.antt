@@ -1,7 +1,8 @@
-use Rattle.std.proofs.Common.{◌≡◌, ◌<◌, ℕ, false}
+use Rattle.std.proofs.Common.{◌≡◌, ℕ, false}
+use Rattle.deletion_rules.specs.Lists.{StandsBefore}
 use Rattle.deletion_rules.specs.Marks.{lists_of}
 use Rattle.deletion_rules.specs.Tests.{is_missing}
 use Rattle.deletion_rules.proofs.deleting.first_missing.Given as goal
 
-abbrev pub invariant-loop-member : goal.invariant-loop-member
-invariant-loop-member l = (u : ℕ) → u < l.member → is_missing l.t (lists_of l.table) l.n u ≡ false
+abbrev pub invariant-loop-until : goal.invariant-loop-until
+invariant-loop-until l = (u : ℕ) → StandsBefore l.untils l.until-index u → is_missing l.t (lists_of l.table) l.n u ≡ false

@@ -1,0 +1,269 @@
+-- A round of marks: what it adds is sound, and it misses nothing; and what the last one leaves.
+use Rattle.std.proofs.Common.{ℕ, suc, ◌≡◌, ◌⊎◌, ◌<◌, ◌≤◌, ◌+◌, inl, inr, Bool, true, false, ◌&&◌, Option, Some, None, List, [], ◌∷◌, ◌++◌, Contains, length, length-append, refl, subst, sym, ◌∙◌, ap, arith, cond, is_none, replicate}
+use Rattle.std.specs.List.{list_all}
+use Rattle.std.proofs.lemmas.Bool.{cases_lt}
+use Rattle.std.proofs.Math.Decide.{dec_lt}
+use Rattle.std.proofs.lemmas.List.{get_or_append_left, get_or_past, get_or_push, get_or-replicate, length-replicate}
+use Rattle.std.proofs.lemmas.List.Sums.{sum_by-append}
+use Rattle.std.proofs.lemmas.List.Elements.{Contains-append_left, Contains-append_right, Contains-push_cases}
+use Rattle.pair_structure.specs.declared.side.Side.{Side}
+use Rattle.pair_structure.specs.declared.side.Side.TheVariants.{A, B}
+use Rattle.ctl_form.specs.declared.part.Part.TheVariants.{Next, Until}
+use Rattle.closure_sets.specs.ClosureParts.{ClosureParts, IsClosureParts, after, some_move}
+use Rattle.closure_sets.specs.Full.{Has, IsFull}
+use Rattle.closure_sets.specs.Label.{part_of}
+use Rattle.closure_sets.specs.Row.{Members}
+use Rattle.closure_sets.proofs.Closures.{after_part}
+use Rattle.tableau_graph.specs.Graph.{Graph, graph_of, IsGraph, IsSomeNext}
+use Rattle.tableau_graph.specs.Rules.{IsTableau}
+use Rattle.tableau_graph.specs.TableauParts.{TableauParts, edges_at}
+use Rattle.deletion_rules.specs.Cursors.{flag_of, AreCursors}
+use Rattle.deletion_rules.specs.Deletion.{HasLower, Falls}
+use Rattle.deletion_rules.specs.Edges.{arrow_of, AreEdges}
+use Rattle.deletion_rules.specs.Lists.{list_at}
+use Rattle.deletion_rules.specs.Marks.{lives_of, mark_at, open_count, rank_of, AreMarks, AreSound, IsSeen}
+use Rattle.deletion_rules.specs.Spread.{AreFirst, IsAdmitted, IsArrowTo, IsLed, IsLedBy, IsMarked, IsMetAt, IsParentOf, IsPassing, IsReaching, IsSpread, Reaching, Visits}
+use Rattle.deletion_rules.specs.Tests.{has_member, is_met, IsGoal}
+use Rattle.deletion_rules.specs.declared.edges.Arrow.{Arrow}
+use Rattle.deletion_rules.specs.declared.goal.Goal.{Goal}
+use Rattle.deletion_rules.proofs.Seen.{all_out, both_of, of_both, successor_hit, successor_there}
+use Rattle.deletion_rules.proofs.Standing.{flag_within, no_yes}
+use Rattle.deletion_rules.proofs.Within.{next_below}
+
+some_same : {x y : ℕ} → ◌≡◌ {A = Option ℕ} (Some x) (Some y) → x ≡ y
+some_same e = cc
+
+no_some : {x : ℕ} → ◌≡◌ {A = Option ℕ} None (Some x) → ⊥
+no_some e = cc
+
+open_none : (marks : List (Option ℕ)) → open_count (marks ++ None ∷ []) ≡ open_count marks + 1
+open_none marks = sum_by-append (λ (mark : Option ℕ). cond (is_none mark) 1 0) marks (None ∷ [])
+
+open_some : (marks : List (Option ℕ)) (r : ℕ) → open_count (marks ++ Some r ∷ []) ≡ open_count marks
+open_some marks r = let q : open_count (marks ++ Some r ∷ []) ≡ open_count marks + 0 = sum_by-append (λ (mark : Option ℕ). cond (is_none mark) 1 0) marks (Some r ∷ []) in omega (arith, q)
+
+no_item : {A : Type 0} (x : A) → Contains [] x → ⊥
+no_item x c = omega (arith, c.1)
+
+-- only nodes have marks
+pub marked_within : (marks : List (Option ℕ)) (n : ℕ) → IsMarked marks n → n < length marks
+marked_within marks n m = elim (cases_lt n (length marks)) [ inl l ↦ l | inr o ↦ absurd (let q : mark_at marks n ≡ None = get_or_past marks n None o in let x : None ≡ Some m.0 = sym q ∙ m.1 in cc) ]
+
+-- an element that fails, where not all pass
+not_all : (p : ℕ → Bool) (xs : List ℕ) → list_all p xs ≡ false → (x : ℕ) × Contains xs x × (p x ≡ false)
+not_all p [] e = absurd (no_yes (sym e))
+not_all p (x ∷ xs) e = by (p x) refl e (λ f. not_all p xs f)
+  where
+    by : (b : Bool) → p x ≡ b → p x && list_all p xs ≡ false → (list_all p xs ≡ false → (y : ℕ) × Contains xs y × (p y ≡ false)) → (y : ℕ) × Contains (x ∷ xs) y × (p y ≡ false)
+    by false q f again = (x, (0, omega arith, refl), q)
+    by true q f again = let rest : list_all p xs ≡ false = subst (λ c. c && list_all p xs ≡ false) q f in let u = again rest in let c = u.1 in (u.0, (suc c.0, omega (arith, c.1), c.2), u.2)
+
+-- a full row has some EXs h
+onward : (c : ClosureParts) → IsClosureParts c → (row : Members) → IsFull c row → (i : ℕ) × (h : ℕ) × (side : Side) × Has row i × (part_of c i ≡ Next false side h)
+onward c k row full = let m = k.moves in elim full.onward [ inl a ↦ (some_move c A, m.0, A, a, (m.3 A).1) | inr b ↦ (some_move c B, m.0, B, b, (m.3 B).1) ]
+
+-- more marks keep what falls
+module _ (c : ClosureParts) (g : Graph) (lives : ℕ → Bool) (marks more : List (Option ℕ)) (kept : (n r : ℕ) → mark_at marks n ≡ Some r → mark_at more n ≡ Some r) (u : ℕ) where
+  lower_keeps : (r s o : ℕ) → r ≤ s → HasLower g lives (rank_of marks) u r o → HasLower g lives (rank_of more) u s o
+  lower_keeps r s o le w = let m = w.3 in (w.0, w.1, w.2, (m.0, kept w.0 m.0 m.1, (let lt = m.2 in omega (arith, lt, le))))
+
+  falls_keeps : (all : Bool) (f second r n : ℕ) → Falls c g lives (rank_of marks) all u f second r n → Falls c g lives (rank_of more) all u f second r n
+  falls_keeps true f second r n (inl y) = inl y
+  falls_keeps true f second r n (inr v) = inr (v.0, λ i h side some. lower_keeps r r (g.next_or n i) (omega arith) (v.1 i h side some))
+  falls_keeps false f second r n (inl y) = inl y
+  falls_keeps false f second r n (inr v) = inr (v.0, (v.1.0, v.1.1, lower_keeps r r (g.next_or n (after c v.1.0 u)) (omega arith) v.1.2))
+
+  seen_keeps : (all : Bool) (f second r n : ℕ) → IsSeen c g lives marks all u f second r n → IsSeen c g lives more all u f second r n
+  seen_keeps all f second r n s = record { living = s.living; member = s.member; falls = falls_keeps all f second r n s.falls }
+
+falls_met : (c : ClosureParts) (g : Graph) (lives : ℕ → Bool) (rank : ℕ → ℕ → Option ℕ) (all : Bool) (u f second r n : ℕ) → Has (g.row n) second → Falls c g lives rank all u f second r n
+falls_met c g lives rank true u f second r n has = inl has
+falls_met c g lives rank false u f second r n has = inl has
+
+module _ (t : TableauParts) (k : IsTableau t) (lives : List Bool) (long : length lives ≡ length t.ands) (goal : Goal) where
+  abbrev g : Graph
+  g = graph_of t
+
+  living_below : (n : ℕ) → lives_of lives n ≡ true → n < length t.ands
+  living_below n e = let lt = flag_within lives n e in omega (arith, lt, long)
+
+  -- where OR nodes that are reached have lower children, a node that is led on falls
+  falls_led : (all : Bool) (reached : List Bool) (marks : List (Option ℕ)) (u f second r n : ℕ) → ((o : ℕ) → flag_of reached o ≡ true → HasLower g (lives_of lives) (rank_of marks) u r o) → Has (g.row n) f → IsLed t reached all u n → Falls t.closure g (lives_of lives) (rank_of marks) all u f second r n
+  falls_led true reached marks u f second r n lower has led = inr (has, λ i h side some. lower (g.next_or n i) (led i h side some))
+  falls_led false reached marks u f second r n lower has led = inr (has, (led.0, led.1, lower (g.next_or n (after t.closure led.0 u)) led.2))
+
+  -- the nodes where the until is met
+  module _ (ok : IsGraph t.closure (graph_of t)) (marks : List (Option ℕ)) (reached : List Bool) (nodes : List ℕ) (h : AreFirst t lives goal (length t.ands) marks nodes) (none : (o : ℕ) → flag_of reached o ≡ true → ⊥) where
+    not_led : (all : Bool) (u n : ℕ) → n < length t.ands → IsLed t reached all u n → ⊥
+    not_led true u n small led = let w = onward t.closure k.rules.closure (g.row n) (ok.full n small) in none (g.next_or n w.0) (led w.0 w.1 w.2 (record { node = small; member = w.3; part = w.4 }))
+    not_led false u n small led = none (g.next_or n (after t.closure led.0 u)) led.2
+
+    pub spread_first : length reached ≡ length t.ors → IsSpread t lives goal 1 marks reached nodes
+    spread_first long_reached = record {
+      sound = record {
+        long = h.long;
+        below = λ n r e. (let q = (h.only n r e).0 in omega (arith, q));
+        seen = λ n r e. (let m = (h.only n r e).1 in record { living = m.living; member = m.member; falls = falls_met t.closure g (lives_of lives) (rank_of marks) goal.all goal.member goal.f goal.second r n m.second });
+      };
+      listed = h.listed;
+      long = long_reached;
+      lower = λ o e. absurd (none o e);
+      caught = λ o n small there m. inr (h.only n m.0 m.1).2;
+      met = λ n m. h.met n (living_below n m.living) m;
+      passing = λ n p. absurd (not_led goal.all goal.member n (living_below n p.living) p.led);
+    }
+
+  -- the last round
+  module _ (is_goal : IsGoal t.closure goal) (round : ℕ) (marks : List (Option ℕ)) (reached : List Bool) (nodes : List ℕ) (s : IsSpread t lives goal round marks reached nodes) where
+    module _ (empty : length nodes ≤ 0) where
+      caught_all : (o : ℕ) → o < length t.ors → HasLower g (lives_of lives) (rank_of marks) goal.member round o → flag_of reached o ≡ true
+      caught_all o small w = elim (s.caught o w.0 small w.1 (w.3.0, w.3.1)) [ inl e ↦ e | inr c ↦ absurd (let lt = c.1 in omega (arith, lt, empty)) ]
+
+      led_of : (all : Bool) (f second n : ℕ) → n < length t.ands → goal.all ≡ all → Falls t.closure g (lives_of lives) (rank_of marks) all goal.member f second round n → Has (g.row n) second ⊎ (Has (g.row n) f × IsLed t reached all goal.member n)
+      led_of true f second n small e (inl y) = inl y
+      led_of true f second n small e (inr v) = inr (v.0, λ i h side some. caught_all (g.next_or n i) (next_below t k n i h side small some.part some.member) (v.1 i h side some))
+      led_of false f second n small e (inl y) = inl y
+      led_of false f second n small e (inr v) =
+          let side = v.1.0 in
+          let part : part_of t.closure goal.member ≡ Until false false goal.f goal.second = subst (λ b. part_of t.closure goal.member ≡ Until b false goal.f goal.second) e is_goal.part in
+          inr (v.0, (side, v.1.1, caught_all (g.next_or n (after t.closure side goal.member)) (next_below t k n (after t.closure side goal.member) goal.member side small (after_part t.closure k.rules.closure goal.member goal.f goal.second false false side part) v.1.1) v.1.2))
+
+      pub spread_done : AreMarks t.closure (graph_of t) (lives_of lives) goal.all goal.member goal.f goal.second marks
+      spread_done = record { round = round; sound = s.sound; full = full }
+        where
+          full : (n : ℕ) → IsSeen t.closure (graph_of t) (lives_of lives) marks goal.all goal.member goal.f goal.second round n → (r : ℕ) × (mark_at marks n ≡ Some r)
+          full n seen = elim (led_of goal.all goal.f goal.second n (living_below n seen.living) refl seen.falls) [ inl y ↦ s.met n (record { living = seen.living; member = seen.member; second = y }) | inr v ↦ s.passing n (record { living = seen.living; member = seen.member; first = v.0; led = v.1 }) ]
+
+    -- one more round
+    module _ (parents : List (List ℕ)) (arrows : List (List Arrow)) (edges : AreEdges t parents arrows) where
+      pub node_below : (n : ℕ) → Contains nodes n → n < length parents
+      node_below n c = let lt = marked_within marks n (s.listed n c) in let a = s.sound.long in let b = edges.up.long in omega (arith, lt, a, b)
+
+      pub parent_below : (n o : ℕ) → Contains (list_at parents n) o → o < length reached
+      parent_below n o c = let lt = (edges.up.each n o c).0 in let e = s.long in omega (arith, lt, e)
+
+      module _ (now : List Bool) (ors : List ℕ) (r : Reaching (IsParentOf parents nodes) reached [] now ors) where
+        is_reached : (o : ℕ) → Contains ors o → flag_of now o ≡ true
+        is_reached o c = elim (r.fresh o c) [ inl none ↦ absurd (no_item o none) | inr e ↦ e ]
+
+        pub or_below : (o : ℕ) → Contains ors o → o < length arrows
+        or_below o c = let lt = flag_within now o (is_reached o c) in let a = r.long in let b = s.long in let d = edges.back.long in omega (arith, lt, a, b, d)
+
+        pub arrow_reaches : (o : ℕ) (arrow : Arrow) → Contains ors o → Contains (list_at arrows o) arrow → IsReaching t now arrow
+        arrow_reaches o arrow c there = (o, edges.back.each o arrow there, is_reached o c)
+
+        pub cursors_stay : (cursors : List ℕ) → AreCursors (length t.ands) t.successors reached true cursors → AreCursors (length t.ands) t.successors now true cursors
+        cursors_stay cursors h = record { long = h.long; each = λ n lt. (let p = h.each n lt in record { within = p.within; passed = λ i small. r.kept _ (p.passed i small) }) }
+
+        pub long_now : length now ≡ length t.ors
+        long_now = r.long ∙ s.long
+
+        lower_now : (o : ℕ) → flag_of now o ≡ true → HasLower g (lives_of lives) (rank_of marks) goal.member round o
+        lower_now o e = elim (r.only o e) [ inl old ↦ s.lower o old | inr new ↦ by new.0 ]
+          where
+            by : IsParentOf parents nodes o → HasLower g (lives_of lives) (rank_of marks) goal.member round o
+            by (n, c, p) = let m = s.listed n c in (n, (edges.up.each n o p).1, (s.sound.seen n m.0 m.1).living, (m.0, m.1, s.sound.below n m.0 m.1))
+
+        caught_now : (o n : ℕ) → o < length t.ors → Contains (g.children o) n → IsMarked marks n → flag_of now o ≡ true
+        caught_now o n small there m = elim (s.caught o n small there m) [ inl e ↦ r.kept o e | inr c ↦ r.all o (n, c, edges.up.all n o (small, there)) ]
+
+        -- a node that passes now has a mark, or an arrow to an OR node that is new
+        abbrev IsVisited : ℕ → Type 0
+        IsVisited n = IsMarked marks n ⊎ ((arrow : Arrow) × IsArrowTo arrows ors arrow × IsAdmitted t lives now goal arrow × (arrow.node ≡ n))
+
+        visited_at : (n i h : ℕ) (side : Side) → IsPassing t lives now goal n → IsSomeNext t.closure g n i side h → Contains ors (g.next_or n i) → IsLedBy t now goal.all goal.member (arrow_of n i) → IsVisited n
+        visited_at n i h side p some c led = inr (arrow_of n i, (g.next_or n i, c, edges.back.all n i (g.next_or n i) some.node ((h, side, some), refl)), record { living = p.living; member = p.member; first = p.first; led = led }, refl)
+
+        visited : (all : Bool) (n : ℕ) → goal.all ≡ all → IsPassing t lives now goal n → IsLed t now all goal.member n → IsVisited n
+        visited false n e p led =
+            let side = led.0 in
+            let i = after t.closure side goal.member in
+            let part : part_of t.closure goal.member ≡ Until false false goal.f goal.second = subst (λ b. part_of t.closure goal.member ≡ Until b false goal.f goal.second) e is_goal.part in
+            let some : IsSomeNext t.closure g n i side goal.member = record { node = living_below n p.living; member = led.1; part = after_part t.closure k.rules.closure goal.member goal.f goal.second false false side part } in
+            elim (r.only (g.next_or n i) led.2) [ inl old ↦ inl (s.passing n (record { living = p.living; member = p.member; first = p.first; led = subst (λ b. IsLed t reached b goal.member n) (sym e) (side, led.1, old) })) | inr new ↦ visited_at n i goal.member side p some new.1 (subst (λ b. IsLedBy t now b goal.member (arrow_of n i)) (sym e) (side, refl)) ]
+        visited true n e p led = by (list_all (flag_of reached) (edges_at t.successors n)) refl
+          where
+            by : (b : Bool) → list_all (flag_of reached) (edges_at t.successors n) ≡ b → IsVisited n
+            by true q = inl (s.passing n (record { living = p.living; member = p.member; first = p.first; led = subst (λ b. IsLed t reached b goal.member n) (sym e) (λ i h side some. all_out (flag_of reached) (edges_at t.successors n) q (g.next_or n i) (successor_there t k n i h side some)) }))
+            by false q =
+                let x = not_all (flag_of reached) (edges_at t.successors n) q in
+                let u = successor_hit t k n x.0 (living_below n p.living) x.1 in
+                elim (r.only (g.next_or n u.0) (led u.0 u.1 u.2 u.3)) [ inl old ↦ absurd (no_yes (sym x.2 ∙ subst (λ o. flag_of reached o ≡ true) u.4 old)) | inr new ↦ visited_at n u.0 u.1 u.2 p u.3 new.1 (subst (λ b. IsLedBy t now b goal.member (arrow_of n u.0)) (sym e) led) ]
+
+        module _ (next : List (Option ℕ)) (new : List ℕ) (v : Visits t lives now goal round (IsArrowTo arrows ors) marks [] next new) where
+          pub spread_next : IsSpread t lives goal (round + 1) next now new
+          spread_next = record {
+            sound = record { long = v.long ∙ s.sound.long; below = below; seen = seen };
+            listed = λ n c. elim (v.fresh n c) [ inl none ↦ absurd (no_item n none) | inr m ↦ m ];
+            long = long_now;
+            lower = λ o e. lower_keeps t.closure g (lives_of lives) marks next v.kept goal.member round (round + 1) o (omega arith) (lower_now o e);
+            caught = λ o n small there m. elim (v.added n m.0 m.1) [ inl old ↦ inl (caught_now o n small there (m.0, old)) | inr a ↦ inr a.2 ];
+            met = λ n m. keeps n (s.met n m);
+            passing = λ n p. elim (visited goal.all n refl p p.led) [ inl m ↦ keeps n m | inr a ↦ subst (IsMarked next) a.3 (v.all a.0 a.1 a.2) ];
+          }
+            where
+              keeps : (n : ℕ) → IsMarked marks n → IsMarked next n
+              keeps n m = (m.0, v.kept n m.0 m.1)
+
+              below : (n r : ℕ) → mark_at next n ≡ Some r → r < round + 1
+              below n r e = elim (v.added n r e) [ inl old ↦ (let lt = s.sound.below n r old in omega (arith, lt)) | inr a ↦ (let q = a.0 in omega (arith, q)) ]
+
+              seen : (n r : ℕ) → mark_at next n ≡ Some r → IsSeen t.closure g (lives_of lives) next goal.all goal.member goal.f goal.second r n
+              seen n r e = elim (v.added n r e) [ inl old ↦ seen_keeps t.closure g (lives_of lives) marks next v.kept goal.member goal.all goal.f goal.second r n (s.sound.seen n r old) | inr a ↦ subst (λ x. IsSeen t.closure g (lives_of lives) next goal.all goal.member goal.f goal.second x n) (sym a.0) (seen_keeps t.closure g (lives_of lives) marks next v.kept goal.member goal.all goal.f goal.second round n (record { living = a.1.living; member = a.1.member; falls = falls_led goal.all now marks goal.member goal.f goal.second round n lower_now a.1.first a.1.led })) ]
+
+-- no flag of the list is set
+pub none_reached : (flags : List Bool) (n : ℕ) → flags ≡ replicate n false → (o : ℕ) → flag_of flags o ≡ true → ⊥
+none_reached flags n e o h = no_yes (sym (all_false n o) ∙ subst (λ (l : List Bool). flag_of l o ≡ true) e h)
+  where
+    all_false : (n o : ℕ) → flag_of (replicate n false) o ≡ false
+    all_false n o = elim (cases_lt o n) [ inl l ↦ get_or-replicate n o false false l | inr g ↦ get_or_past (replicate n false) o false (let q = length-replicate n false in omega (arith, g, q)) ]
+
+pub first_none : (t : TableauParts) (lives : List Bool) (goal : Goal) (marks : List (Option ℕ)) (nodes : List ℕ) → marks ≡ [] → nodes ≡ [] → AreFirst t lives goal 0 marks nodes
+first_none t lives goal marks nodes e f = subst (λ (m : List (Option ℕ)). AreFirst t lives goal 0 m nodes) (sym e) (subst (AreFirst t lives goal 0 []) (sym f) (record { long = refl; met = λ n lt m. absurd (omega (arith, lt)); only = λ n r q. absurd (no_some q); listed = λ n c. absurd (no_item n c); fewer = refl }))
+
+-- the first nodes, one after the other
+module _ (t : TableauParts) (lives : List Bool) (goal : Goal) (k : ℕ) (marks more : List (Option ℕ)) (nodes : List ℕ) (h : AreFirst t lives goal k marks nodes) where
+  grown_long : (x : Option ℕ) → more ≡ marks ++ x ∷ [] → length more ≡ k + 1
+  grown_long x e = let l : length marks ≡ k = h.long in ap length e ∙ (let q : length (marks ++ x ∷ []) ≡ k + 1 = omega (arith, l, length-append marks (x ∷ [])) in q)
+
+  grown_here : (x : Option ℕ) → more ≡ marks ++ x ∷ [] → mark_at more k ≡ x
+  grown_here x e = ap (λ (l : List (Option ℕ)). mark_at l k) e ∙ get_or_push marks x None k h.long
+
+  grown_before : (x : Option ℕ) → more ≡ marks ++ x ∷ [] → (n : ℕ) → n < k → mark_at more n ≡ mark_at marks n
+  grown_before x e n lt = ap (λ (l : List (Option ℕ)). mark_at l n) e ∙ get_or_append_left marks (x ∷ []) None n (let l = h.long in omega (arith, lt, l))
+
+  kept : (x : Option ℕ) → more ≡ marks ++ x ∷ [] → (n : ℕ) → IsMarked marks n → IsMarked more n
+  kept x e n m = (m.0, grown_before x e n (let lt = marked_within marks n m in let l = h.long in omega (arith, lt, l)) ∙ m.1)
+
+  pub first_yes : (new : List ℕ) → is_met t lives goal k ≡ true → more ≡ marks ++ Some 0 ∷ [] → new ≡ nodes ++ k ∷ [] → AreFirst t lives goal (k + 1) more new
+  first_yes new is e f = subst (AreFirst t lives goal (k + 1) more) (sym f) (record { long = grown_long (Some 0) e; met = met; only = only; listed = listed; fewer = fewer })
+    where
+      here : IsMetAt t lives goal k
+      here = let a = both_of (lives_of lives k && has_member t k goal.member) (has_member t k goal.second) is in let b = both_of (lives_of lives k) (has_member t k goal.member) a.0 in record { living = b.0; member = b.1; second = a.1 }
+
+      met : (n : ℕ) → n < k + 1 → IsMetAt t lives goal n → IsMarked more n
+      met n lt m = elim (dec_lt n k) [ yes b ↦ kept (Some 0) e n (h.met n b m) | no o ↦ (let q : k ≡ n = omega (arith, lt, o) in subst (IsMarked more) q (0, grown_here (Some 0) e)) ]
+
+      only : (n r : ℕ) → mark_at more n ≡ Some r → (r ≡ 0) × IsMetAt t lives goal n × Contains (nodes ++ k ∷ []) n
+      only n r q = elim (dec_lt n k) [ yes b ↦ (let o = h.only n r (sym (grown_before (Some 0) e n b) ∙ q) in (o.0, o.1, Contains-append_left nodes (k ∷ []) n o.2)) | no o ↦ (let z : k ≡ n = (let lt = marked_within more n (r, q) in let l = grown_long (Some 0) e in omega (arith, lt, l, o)) in (some_same (sym (subst (λ x. mark_at more x ≡ Some r) (sym z) q) ∙ grown_here (Some 0) e), subst (IsMetAt t lives goal) z here, subst (Contains (nodes ++ k ∷ [])) z (Contains-append_right nodes (k ∷ []) k (0, omega arith, refl)))) ]
+
+      listed : (n : ℕ) → Contains (nodes ++ k ∷ []) n → IsMarked more n
+      listed n c = elim (Contains-push_cases nodes k n c) [ inl b ↦ kept (Some 0) e n (h.listed n b) | inr q ↦ subst (IsMarked more) q (0, grown_here (Some 0) e) ]
+
+      fewer : open_count more + length (nodes ++ k ∷ []) ≡ k + 1
+      fewer = let q : open_count more ≡ open_count marks = ap open_count e ∙ open_some marks 0 in let f = h.fewer in omega (arith, q, f, length-append nodes (k ∷ []))
+
+  pub first_no : is_met t lives goal k ≡ false → more ≡ marks ++ None ∷ [] → AreFirst t lives goal (k + 1) more nodes
+  first_no is e = record { long = grown_long None e; met = met; only = only; listed = λ n c. kept None e n (h.listed n c); fewer = fewer }
+    where
+      never : IsMetAt t lives goal k → ⊥
+      never m = no_yes (sym is ∙ of_both (lives_of lives k && has_member t k goal.member) (has_member t k goal.second) (of_both (lives_of lives k) (has_member t k goal.member) m.living m.member) m.second)
+
+      met : (n : ℕ) → n < k + 1 → IsMetAt t lives goal n → IsMarked more n
+      met n lt m = elim (dec_lt n k) [ yes b ↦ kept None e n (h.met n b m) | no o ↦ (let q : n ≡ k = omega (arith, lt, o) in absurd (never (subst (IsMetAt t lives goal) q m))) ]
+
+      only : (n r : ℕ) → mark_at more n ≡ Some r → (r ≡ 0) × IsMetAt t lives goal n × Contains nodes n
+      only n r q = elim (dec_lt n k) [ yes b ↦ h.only n r (sym (grown_before None e n b) ∙ q) | no o ↦ (let z : n ≡ k = (let lt = marked_within more n (r, q) in let l = grown_long None e in omega (arith, lt, l, o)) in absurd (no_some (sym (grown_here None e) ∙ subst (λ x. mark_at more x ≡ Some r) z q))) ]
+
+      fewer : open_count more + length nodes ≡ k + 1
+      fewer = let q : open_count more ≡ open_count marks + 1 = ap open_count e ∙ open_none marks in let f = h.fewer in omega (arith, q, f)

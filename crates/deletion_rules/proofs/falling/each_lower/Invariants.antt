@@ -1,8 +1,0 @@
-use Rattle.std.proofs.Common.{◌≡◌, true, take}
-use Rattle.std.specs.List.{list_all}
-use Rattle.tableau_graph.specs.TableauParts.{edges_at}
-use Rattle.deletion_rules.specs.Tests.{has_lower}
-use Rattle.deletion_rules.proofs.falling.each_lower.Given as goal
-
-abbrev pub invariant-loop-or : goal.invariant-loop-or
-invariant-loop-or l = (l.or-items ≡ edges_at l.t.successors l.n) × (list_all (has_lower l.t l.lives l.marks l.round) (take l.or-index l.or-items) ≡ true)

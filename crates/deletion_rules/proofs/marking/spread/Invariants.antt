@@ -1,0 +1,15 @@
+use Rattle.std.proofs.Common.{◌≡◌, ◌≤◌, ◌+◌, true, length}
+use Rattle.deletion_rules.specs.Cursors.{AreCursors}
+use Rattle.deletion_rules.specs.Marks.{open_count}
+use Rattle.deletion_rules.specs.Spread.{IsSpread}
+use Rattle.deletion_rules.proofs.marking.spread.Given as goal
+
+abbrev pub invariant-loop-alloc : goal.invariant-loop-alloc
+invariant-loop-alloc l = record {
+  spread : IsSpread l.t l.lives l.goal (l.round + 1) l.front.marks.items l.reached l.front.nodes.items;
+  cursors : AreCursors (length l.t.ands) l.t.successors l.reached true l.front.cursors.items;
+  few : l.round + (open_count l.front.marks.items + length l.front.nodes.items) ≤ length l.t.ands;
+}
+
+abbrev pub decreases-loop-alloc : goal.decreases-loop-alloc
+decreases-loop-alloc l = open_count l.front.marks.items + length l.front.nodes.items

@@ -1,0 +1,11 @@
+use Rattle.std.proofs.Common.{◌≡◌, true, length}
+use Rattle.deletion_rules.specs.Cursors.{AreCursors}
+use Rattle.deletion_rules.specs.Lists.{StandsBefore}
+use Rattle.deletion_rules.specs.Spread.{Visits}
+use Rattle.deletion_rules.proofs.visiting.visit_arrows.Given as goal
+
+abbrev pub invariant-loop-arrow : goal.invariant-loop-arrow
+invariant-loop-arrow l = record {
+  visits : Visits l.t l.lives l.reached l.goal l.round (StandsBefore l.arrows l.arrow-index) l.initial.front.marks.items l.initial.front.nodes.items l.front.marks.items l.front.nodes.items;
+  cursors : AreCursors (length l.t.ands) l.t.successors l.reached true l.front.cursors.items;
+}

@@ -1,0 +1,105 @@
+ghost use Rattle.std.specs.Prelude.{◌≡◌, ◌+◌, ◌<◌, length, slice_index_or, IfOk, OnOk};
+ghost use Rattle.closure_sets.specs.ClosureParts.{count};
+ghost use Rattle.deletion_rules.specs.Edges.{is_next, AreArrows, AreEdges, AreParents};
+ghost use Rattle.tableau_graph.specs.TableauParts.{edges_at};
+
+use crate::lists::Lists;
+use pair_structure::Memory;
+use std::alloc::Global;
+use tableau_graph::{Tableau, is_some_next};
+
+/// A member EXs h of an AND node's row, by which the node leads to an OR node.
+#[derive(Clone, Copy)]
+pub(crate) struct Arrow {
+    pub(crate) node: u64,
+    pub(crate) member: u32,
+}
+
+/// The edges of a tableau the other way round: for each AND node the OR nodes of which it is a child, and for each OR node the members of
+/// AND nodes that lead to it. 8 and 16 bytes an edge.
+#[derive(Drop)]
+pub(crate) struct Edges {
+    pub(crate) parents: Lists<u64>,
+    pub(crate) arrows: Lists<Arrow>,
+}
+
+impl Edges {
+    /// Linear in nodes and edges, and in the members for each AND node.
+    pub(crate) fn of(alloc: Global, t: &Tableau) -> Result<Edges, Memory>
+        ensures { IfOk result (λ e. AreEdges t.now e.parents e.arrows) }
+    {
+        let parents = parents_of(alloc, t)?;
+        let arrows = arrows_of(alloc, t)?;
+        Ok(Edges { parents, arrows })
+    }
+}
+
+fn parents_of(alloc: Global, t: &Tableau) -> Result<Lists<u64>, Memory>
+    ensures { IfOk result (λ parents. AreParents t.now (length t.now.ors) parents) }
+{
+    let ors = t.ors().len();
+    let mut parents = Lists::empty(alloc, t.ands().len())?;
+    for or in 0..ors {
+        add_parent(t, or as u64, &mut parents)?;
+    }
+    Ok(parents)
+}
+
+/// Puts the OR node down as a parent of each of its children.
+fn add_parent(t: &Tableau, or: u64, parents: &mut Lists<u64>) -> Result<(), Memory>
+    requires or { or < length t.now.ors }
+    requires before { AreParents t.now or parents.old }
+    ensures { OnOk result (AreParents t.now (or + 1) parents.new) }
+{
+    let _nodes = t.ands();
+    for child in t.children(or) {
+        parents.push(*child, or)?;
+    }
+    Ok(())
+}
+
+fn arrows_of(alloc: Global, t: &Tableau) -> Result<Lists<Arrow>, Memory>
+    ensures { IfOk result (λ arrows. AreArrows t.now (length t.now.ands) arrows) }
+{
+    let ands = t.ands().len();
+    let mut arrows = Lists::empty(alloc, t.ors().len())?;
+    for and in 0..ands {
+        add_arrows(t, and as u64, &mut arrows)?;
+    }
+    Ok(arrows)
+}
+
+/// Puts each member EXs h of the node's row down at the OR node that it leads to. One pass over the members.
+fn add_arrows(t: &Tableau, and: u64, arrows: &mut Lists<Arrow>) -> Result<(), Memory>
+    requires and { and < length t.now.ands }
+    requires before { AreArrows t.now and arrows.old }
+    ensures { OnOk result (AreArrows t.now (and + 1) arrows.new) }
+{
+    let _nodes = t.ands();
+    let mut place = 0;
+    for member in 0..t.closure().count() {
+        if is_next(t, and, member) {
+            arrows.push(successor_at(t, and, place), Arrow { node: and, member })?;
+            place += 1;
+        }
+    }
+    Ok(())
+}
+
+/// The OR node at this place of the node's successors.
+fn successor_at(t: &Tableau, and: u64, place: usize) -> u64
+    requires { and < length t.now.ands }
+    ensures { result ≡ slice_index_or (edges_at t.now.successors and) place 0 }
+{
+    t.successors(and).get(place).copied().unwrap_or(0)
+}
+
+/// Whether the member is some EXs h of the node's row.
+fn is_next(t: &Tableau, and: u64, member: u32) -> bool
+    requires and { and < length t.now.ands }
+    requires member { member < count t.now.closure }
+    ensures { result ≡ is_next t.now and member }
+{
+    let _few = t.closure().count();
+    t.ands()[and as usize].row.has(member) && is_some_next(t.closure().part(member))
+}
