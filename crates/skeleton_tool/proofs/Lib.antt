@@ -1,3 +1,4 @@
+pub mod Decided
 pub mod Solved
 pub mod Synthesized
 pub mod Taken

@@ -1,5 +1,6 @@
 pub mod Answer
 pub mod Command
+pub mod Complete
 pub mod Failing
 pub mod Refusal
 pub mod Showing
