@@ -13,3 +13,9 @@ pub mod Roles
 pub mod Solved
 pub mod Taken
 pub mod Skeletons
+pub mod FewEdges
+pub mod SystemLaws
+pub mod Pieces
+pub mod Replayed
+pub mod JournalTaken
+pub mod Planned

@@ -4,9 +4,11 @@ pub mod Failing
 pub mod Labels
 pub mod Proposition
 pub mod Refusal
+pub mod Replay
 pub mod Showing
 pub mod Skel
 pub mod Status
 pub mod Solving
 pub mod Taking
+pub mod Telling
 pub mod View

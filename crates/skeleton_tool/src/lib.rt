@@ -9,6 +9,8 @@ mod failing;
 mod plain;
 mod proving;
 mod refusal;
+mod replaying;
+mod run_text;
 mod showing;
 mod solving;
 mod status;
@@ -16,11 +18,14 @@ mod stop;
 mod synthesis;
 mod taking;
 mod taking_both;
+mod taking_journal;
 
 pub use call::plan;
 
 #[cfg(test)]
 mod answered;
+#[cfg(test)]
+mod replay_tests;
 #[cfg(test)]
 mod skel_tests;
 #[cfg(test)]

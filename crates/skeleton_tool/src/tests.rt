@@ -6,11 +6,12 @@ use std::alloc::{AllocError, Global};
 use std::process::Abort;
 use std::test::Fail;
 
-const USAGE: &str = "usage:\n  synth SPEC\n  prove SPEC SOL\n  skel SPEC SOL\n";
+const USAGE: &str =
+    "usage:\n  synth SPEC\n  prove SPEC SOL\n  skel SPEC SOL\n  replay SPEC SOL JOURNAL\n";
 
 const ONLY_ALWAYS: &str = "refused spec 0 OnlyAlways\n";
 
-const PHIL: &str =
+pub(crate) const PHIL: &str =
     "role phil\nlocal N\nlocal T\nlocal C\nstart N\narc N T free\narc T C\narc C N free\nend\n";
 
 const EXCL: &str = "kind excl phil phil\nrequire AG !(a.C & b.C)\nend\n";
@@ -88,7 +89,7 @@ const WEAK: &str = "kind weak phil phil\nrequire A[!(a.C & b.C) W false]\nend\n"
 const PROCESSES: &str = "process p0 phil\n# beside\n\tprocess p1 phil\nedge p0 p1 excl\n";
 
 /// Mutual exclusion in which each philosopher that tries will eat, with two processes.
-const MUTEX: &str = "kind mutex phil phil
+pub(crate) const MUTEX: &str = "kind mutex phil phil
 require AG !(a.C & b.C)
 require AG (a.T -> AF a.C)
 require AG (b.T -> AF b.C)
@@ -194,7 +195,7 @@ const SOL: &[u8] = b"solution 1\ndone\n";
 #[test]
 fn judges_words_then_the_file(rt: HostRuntime) -> Result<(), Fail> {
     let alloc = rt.alloc();
-    let rows: [(&[&str], u8, &str); 17] = [
+    let rows: [(&[&str], u8, &str); 19] = [
         (&[], 1, USAGE),
         (&["synth"], 1, USAGE),
         (&["synth", "-x"], 1, USAGE),
@@ -207,6 +208,8 @@ fn judges_words_then_the_file(rt: HostRuntime) -> Result<(), Fail> {
         (&["prove", "spec", "-sol"], 1, USAGE),
         (&["skel", "spec"], 1, USAGE),
         (&["skel", "-", "sol"], 1, USAGE),
+        (&["replay", "spec", "sol"], 1, USAGE),
+        (&["replay", "spec", "sol", "-x"], 1, USAGE),
         (&["synth", "other"], 5, "read fault spec\n"),
         (&["prove", "other", "other"], 5, "read fault spec\n"),
         (&["prove", "spec", "other"], 5, "read fault solution\n"),
