@@ -3,3 +3,9 @@ pub mod Solved
 pub mod Synthesized
 pub mod Taken
 pub mod Skeletons
+pub mod FewEdges
+pub mod SystemLaws
+pub mod Pieces
+pub mod Replayed
+pub mod JournalTaken
+pub mod Planned

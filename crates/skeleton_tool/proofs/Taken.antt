@@ -12,7 +12,7 @@ use Rattle.skeleton_tool.specs.declared.status.Status.TheVariants.{Done, Usage, 
 use Rattle.skeleton_tool.specs.declared.stop.Stop.{Stop}
 use Rattle.skeleton_tool.specs.declared.stop.Stop.TheVariants.{Answered, Memory}
 use Rattle.skeleton_tool.specs.Answer.{IsSpecRead, NoSolution, NotRead, IsSolved}
-use Rattle.skeleton_tool.specs.Command.{Command, synth, asked_files, spec_limit, solution_limit}
+use Rattle.skeleton_tool.specs.Command.{Command, synth, asked_files, spec_limit, solution_limit, journal_limit}
 use Rattle.skeleton_tool.specs.Taking.{Files, ShelfSeen, IsUntaken, StopsAs}
 
 -- a count that rose later rose
@@ -24,10 +24,10 @@ rose_since first mid now le rose =
     omega arith
 
 -- what the shelf was, from one place of a call to its end
-abbrev Seen : Files → ℕ → ℕ → ℕ → ℕ → ShelfSeen
+abbrev pub Seen : Files → ℕ → ℕ → ℕ → ℕ → ShelfSeen
 Seen files f g l m = record { files = files; faults_before = f; faults_after = g; longs_before = l; longs_after = m }
 
-untaken_since : (files : Files) (f e g l k m : ℕ) (word file : List ℕ) (max : ℕ) (status : Status) (text : List ℕ) → f ≤ e → l ≤ k → IsUntaken (Seen files e g k m) word file max status text → IsUntaken (Seen files f g l m) word file max status text
+pub untaken_since : (files : Files) (f e g l k m : ℕ) (word file : List ℕ) (max : ℕ) (status : Status) (text : List ℕ) → f ≤ e → l ≤ k → IsUntaken (Seen files e g k m) word file max status text → IsUntaken (Seen files f g l m) word file max status text
 untaken_since files f e g l k m word file max ReadFault text le lo h = (rose_since f e g le h.0, h.1)
 untaken_since files f e g l k m word file max Refused text le lo h = (record { counted = rose_since l k m lo h.0.counted; told = h.0.told }, h.1)
 untaken_since files f e g l k m word file max Done text le lo h = absurd h
@@ -63,6 +63,10 @@ synth_asks MayAsk command spec is allowed = let all = rw is at allowed in all 0 
 -- a command over a specification and a solution asks for both
 pub both_asked : (MayAsk : List ℕ × ℕ → Type 0) (command : Command) (spec sol : List ℕ) → asked_files (Some command) ≡ (spec, spec_limit) ∷ (sol, solution_limit) ∷ [] → All MayAsk (asked_files (Some command)) → MayAsk (spec, spec_limit) × MayAsk (sol, solution_limit)
 both_asked MayAsk command spec sol is allowed = let all = rw is at allowed in (all 0 (spec, spec_limit) (omega arith), all 1 (spec, spec_limit) (omega arith))
+
+-- a command over a specification, a solution and a journal asks for all three
+pub all_asked : (MayAsk : List ℕ × ℕ → Type 0) (command : Command) (spec sol journal : List ℕ) → asked_files (Some command) ≡ (spec, spec_limit) ∷ (sol, solution_limit) ∷ (journal, journal_limit) ∷ [] → All MayAsk (asked_files (Some command)) → MayAsk (spec, spec_limit) × MayAsk (sol, solution_limit) × MayAsk (journal, journal_limit)
+all_asked MayAsk command spec sol journal is allowed = let all = rw is at allowed in (all 0 (spec, spec_limit) (omega arith), all 1 (spec, spec_limit) (omega arith), all 2 (spec, spec_limit) (omega arith))
 
 -- three pieces, one after another
 pub three_pieces : (a x y w z b c d : List ℕ) → b ≡ a ++ x → c ≡ b ++ y → y ≡ w → d ≡ c ++ z → d ≡ a ++ (x ++ w ++ z)

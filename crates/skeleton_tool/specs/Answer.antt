@@ -12,10 +12,11 @@ use Rattle.ctl_text.specs.Text.{IsSpecText, IsRefused}
 use Rattle.solution_text.specs.Text.{IsSolutionText, IsRefused as IsSolutionRefused}
 use Rattle.skeleton_tool.specs.declared.status.Status.{Status}
 use Rattle.skeleton_tool.specs.declared.status.Status.TheVariants.{Done, Usage, Refused, Unsatisfiable, Fails, ReadFault, WriteFault, OutOfMemory}
-use Rattle.skeleton_tool.specs.Command.{Command, synth, prove, skel, command_of, usage_text, spec_limit, solution_limit}
+use Rattle.skeleton_tool.specs.Command.{Command, synth, prove, skel, replay, command_of, usage_text, spec_limit, solution_limit}
 use Rattle.skeleton_tool.specs.Status.{code_of}
 use Rattle.skeleton_tool.specs.Failing.{NamesFailing}
 use Rattle.skeleton_tool.specs.Skel.{Skels}
+use Rattle.skeleton_tool.specs.Replay.{AnswersJournal}
 use Rattle.skeleton_tool.specs.Refusal.{refused_text}
 use Rattle.skeleton_tool.specs.Taking.{Files, ShelfSeen, IsGiven, IsUntaken}
 
@@ -113,6 +114,7 @@ abbrev pub AnswersCommand : ShelfSeen → Command → Status → List ℕ → Ty
 AnswersCommand shelf (synth spec) status text = AnswersSynth shelf spec status text
 AnswersCommand shelf (prove spec sol) status text = AnswersBoth Proves shelf spec sol status text
 AnswersCommand shelf (skel spec sol) status text = AnswersBoth Skels shelf spec sol status text
+AnswersCommand shelf (replay spec sol journal) status text = AnswersBoth (AnswersJournal shelf journal) shelf spec sol status text
 
 -- the status and its text are an answer to these words, over such a shelf
 abbrev pub IsAnswer : List (List ℕ) → ShelfSeen → Status → List ℕ → Type 0

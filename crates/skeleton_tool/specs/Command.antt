@@ -3,11 +3,12 @@ use Rattle.std.specs.Prelude.{ℕ, ◌==◌, ◌&&◌, ◌||◌, not, Bool, fals
 use Rattle.std.specs.declared.alloc.Global.{Global}
 use Rattle.std.specs.Str.{bytes_eq}
 
--- each with its files: a specification, and behind it for `prove` and `skel` a solution
+-- each with its files: a specification, behind it for all but `synth` a solution, and for `replay` a journal
 pub data Command : Type 0 where
   synth : List ℕ → Command
   prove : List ℕ → List ℕ → Command
   skel : List ℕ → List ℕ → Command
+  replay : List ℕ → List ℕ → List ℕ → Command
 
 -- 45 is '-'
 abbrev pub begins_with_dash : List ℕ → Bool
@@ -21,17 +22,24 @@ command_on name spec sol =
     if bytes_eq name (codes "prove") then Some (prove spec sol) else
     if bytes_eq name (codes "skel") then Some (skel spec sol) else None
 
+-- the command over a specification, a solution and a journal
+abbrev pub command_over : List ℕ → List ℕ → List ℕ → List ℕ → Option Command
+command_over name spec sol journal =
+    if begins_with_dash spec || begins_with_dash sol || begins_with_dash journal then None else
+    if bytes_eq name (codes "replay") then Some (replay spec sol journal) else None
+
 -- the name of the command, and as many words as it takes, of which none begins with a dash
 abbrev pub command_of : List (List ℕ) → Option Command
 command_of (name ∷ spec ∷ []) = if bytes_eq name (codes "synth") && not (begins_with_dash spec) then Some (synth spec) else None
 command_of (name ∷ spec ∷ sol ∷ []) = command_on name spec sol
+command_of (name ∷ spec ∷ sol ∷ journal ∷ []) = command_over name spec sol journal
 command_of words = None
 
 abbrev pub words_of : List (String Global) → List (List ℕ)
 words_of = map string_bytes
 
 abbrev pub usage_text : List ℕ
-usage_text = codes "usage:\n  synth SPEC\n  prove SPEC SOL\n  skel SPEC SOL\n"
+usage_text = codes "usage:\n  synth SPEC\n  prove SPEC SOL\n  skel SPEC SOL\n  replay SPEC SOL JOURNAL\n"
 
 -- the most bytes that a specification may have
 abbrev pub spec_limit : ℕ
@@ -41,9 +49,14 @@ spec_limit = 1048576
 abbrev pub solution_limit : ℕ
 solution_limit = 67108864
 
+-- the most bytes that a journal may have
+abbrev pub journal_limit : ℕ
+journal_limit = 536870912
+
 -- the files that a command asks for, each with the most bytes that it may have
 abbrev pub asked_files : Option Command → List (List ℕ × ℕ)
 asked_files (Some (synth spec)) = (spec, spec_limit) ∷ []
 asked_files (Some (prove spec sol)) = (spec, spec_limit) ∷ (sol, solution_limit) ∷ []
 asked_files (Some (skel spec sol)) = (spec, spec_limit) ∷ (sol, solution_limit) ∷ []
+asked_files (Some (replay spec sol journal)) = (spec, spec_limit) ∷ (sol, solution_limit) ∷ (journal, journal_limit) ∷ []
 asked_files None = []

@@ -3,8 +3,10 @@ pub mod Command
 pub mod Complete
 pub mod Failing
 pub mod Refusal
+pub mod Replay
 pub mod Showing
 pub mod Skel
 pub mod Status
 pub mod Taking
+pub mod Telling
 pub mod View

@@ -6,6 +6,7 @@ ghost use Rattle.skeleton_tool.specs.View.{command_value};
 
 use crate::command::{Command, command_in};
 use crate::proving::prove;
+use crate::replaying::replay;
 use crate::showing::skel;
 use crate::status::Status;
 use crate::stop::Stop;
@@ -41,7 +42,9 @@ pub(crate) fn answer<S: Shelf>(
             }
         }
         None => {
-            text.extend_from_slice(b"usage:\n  synth SPEC\n  prove SPEC SOL\n  skel SPEC SOL\n")?;
+            text.extend_from_slice(
+                b"usage:\n  synth SPEC\n  prove SPEC SOL\n  skel SPEC SOL\n  replay SPEC SOL JOURNAL\n",
+            )?;
             Ok(Status::Usage)
         }
     }
@@ -83,6 +86,10 @@ fn answer_command<S: Shelf>(
         }
         Command::Skel(spec, sol) => {
             let status = skel(alloc, spec, sol, shelf, text)?;
+            Ok(status)
+        }
+        Command::Replay(spec, sol, journal) => {
+            let status = replay(alloc, spec, sol, journal, shelf, text)?;
             Ok(status)
         }
     }

@@ -7,6 +7,8 @@ mod command;
 mod failing;
 mod proving;
 mod refusal;
+mod replaying;
+mod run_text;
 mod showing;
 mod solving;
 mod status;
@@ -14,6 +16,7 @@ mod stop;
 mod synthesis;
 mod taking;
 mod taking_both;
+mod taking_journal;
 
 pub use call::plan;
 
@@ -21,6 +24,8 @@ pub use call::plan;
 mod answered;
 #[cfg(test)]
 mod example_texts;
+#[cfg(test)]
+mod replay_tests;
 #[cfg(test)]
 mod skel_tests;
 #[cfg(test)]

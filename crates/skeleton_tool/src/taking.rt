@@ -89,7 +89,7 @@ pub(crate) fn take_solution<S: Shelf>(
 }
 
 /// Takes a file of at most `max` bytes, which answers name by this word.
-fn take_file<S: Shelf>(
+pub(crate) fn take_file<S: Shelf>(
     alloc: Global,
     file: &str,
     max: u64,

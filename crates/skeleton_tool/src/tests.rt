@@ -6,7 +6,8 @@ use std::alloc::{AllocError, Global};
 use std::process::Abort;
 use std::test::Fail;
 
-const USAGE: &str = "usage:\n  synth SPEC\n  prove SPEC SOL\n  skel SPEC SOL\n";
+const USAGE: &str =
+    "usage:\n  synth SPEC\n  prove SPEC SOL\n  skel SPEC SOL\n  replay SPEC SOL JOURNAL\n";
 
 pub(crate) const PHIL: &str =
     "role phil\nlocal N\nlocal T\nlocal C\nstart N\narc N T free\narc T C\narc C N free\nend\n";
@@ -46,7 +47,7 @@ done
 ";
 
 /// Mutual exclusion in which each philosopher that tries will eat, with two processes.
-const MUTEX: &str = "kind mutex phil phil
+pub(crate) const MUTEX: &str = "kind mutex phil phil
 require AG !(a.C & b.C)
 require AG (a.T -> AF a.C)
 require AG (b.T -> AF b.C)
@@ -126,7 +127,7 @@ const SOL: &[u8] = b"solution 1\ndone\n";
 #[test]
 fn judges_words_then_the_file(rt: HostRuntime) -> Result<(), Fail> {
     let alloc = rt.alloc();
-    let rows: [(&[&str], u8, &str); 17] = [
+    let rows: [(&[&str], u8, &str); 19] = [
         (&[], 1, USAGE),
         (&["synth"], 1, USAGE),
         (&["synth", "-x"], 1, USAGE),
@@ -139,6 +140,8 @@ fn judges_words_then_the_file(rt: HostRuntime) -> Result<(), Fail> {
         (&["prove", "spec", "-sol"], 1, USAGE),
         (&["skel", "spec"], 1, USAGE),
         (&["skel", "-", "sol"], 1, USAGE),
+        (&["replay", "spec", "sol"], 1, USAGE),
+        (&["replay", "spec", "sol", "-x"], 1, USAGE),
         (&["synth", "other"], 5, "read fault spec\n"),
         (&["prove", "other", "other"], 5, "read fault spec\n"),
         (&["prove", "spec", "other"], 5, "read fault solution\n"),

@@ -1,7 +1,7 @@
 use Rattle.std.proofs.Common.{ℕ, List, ap, Some}
 use Rattle.skeleton_tool.specs.Command.{asked_files}
 use Rattle.skeleton_tool.specs.View.{command_value}
-use Rattle.skeleton_tool.proofs.Taken.{synth_asks, both_asked}
+use Rattle.skeleton_tool.proofs.Taken.{synth_asks, both_asked, all_asked}
 use Rattle.skeleton_tool.proofs.answer.answer_command.Goals as goal
 
 pub synth-requires-clause-allowed : goal.synth-requires-clause-allowed
@@ -18,3 +18,12 @@ skel-requires-clause-spec g c = (both_asked (λ (file : List ℕ × ℕ). g.S.Sh
 
 pub skel-requires-clause-sol : goal.skel-requires-clause-sol
 skel-requires-clause-sol g c = (both_asked (λ (file : List ℕ × ℕ). g.S.Shelf.may_ask c.args.shelf.now file.0 file.1) (command_value c.args.command) c.in-Skel.spec.now c.in-Skel.sol.now (ap (λ x. asked_files (Some (command_value x))) c.in-Skel.is) c.requires.allowed).1
+
+pub replay-requires-clause-spec : goal.replay-requires-clause-spec
+replay-requires-clause-spec g c = (all_asked (λ (file : List ℕ × ℕ). g.S.Shelf.may_ask c.args.shelf.now file.0 file.1) (command_value c.args.command) c.in-Replay.spec.now c.in-Replay.sol.now c.in-Replay.journal.now (ap (λ x. asked_files (Some (command_value x))) c.in-Replay.is) c.requires.allowed).0
+
+pub replay-requires-clause-sol : goal.replay-requires-clause-sol
+replay-requires-clause-sol g c = (all_asked (λ (file : List ℕ × ℕ). g.S.Shelf.may_ask c.args.shelf.now file.0 file.1) (command_value c.args.command) c.in-Replay.spec.now c.in-Replay.sol.now c.in-Replay.journal.now (ap (λ x. asked_files (Some (command_value x))) c.in-Replay.is) c.requires.allowed).1
+
+pub replay-requires-clause-journal : goal.replay-requires-clause-journal
+replay-requires-clause-journal g c = (all_asked (λ (file : List ℕ × ℕ). g.S.Shelf.may_ask c.args.shelf.now file.0 file.1) (command_value c.args.command) c.in-Replay.spec.now c.in-Replay.sol.now c.in-Replay.journal.now (ap (λ x. asked_files (Some (command_value x))) c.in-Replay.is) c.requires.allowed).2
