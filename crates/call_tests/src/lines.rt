@@ -1,6 +1,7 @@
 //! Numbers, words and lines of strict texts.
 
 use crate::table::expect;
+use samples::to_lines;
 use std::alloc::Global;
 use std::test::Fail;
 use strict_text::{cut_line, cut_word, is_strict, number};
@@ -50,23 +51,27 @@ fn cuts_words(rt: HostRuntime) -> Result<(), Fail> {
 }
 
 /// The first line, whether it is ended, whether its bytes may stand in a line, and how many bytes stand behind it. A `/` is a line feed.
-const LINES: &str = "move 0 a 1/end = move 0 a 1 true true 3
-end = end false true 0
-/end =  true true 3
-state N ~ = state N ~ false true 0
-a\tb = a\tb false false 0
-\u{7f} = \u{7f} false false 0
-\u{e4}/ = \u{e4} true false 0";
+const LINES: &str = "move 0 a 1/end = move 0 a 1 [true, true] 3
+end = end [false, true] 0
+/end =  [true, true] 3
+state N ~ = state N ~ [false, true] 0
+a\tb = a\tb [false, false] 0
+\u{7f} = \u{7f} [false, false] 0
+\u{e4}/ = \u{e4} [true, false] 0";
 
-fn line_told(alloc: Global, text: &str) -> Result<String, Fail> {
-    let text = text.replace(alloc, "/", "\n")?;
-    if text.as_str().as_bytes().is_empty() {
+fn first_line(alloc: Global, bytes: &[u8]) -> Result<String, Fail> {
+    if bytes.is_empty() {
         return Err(Fail::from("no line"));
     }
-    let (line, behind) = cut_line(text.as_str().as_bytes());
+    let (line, behind) = cut_line(bytes);
     let word = String::from_utf8_lossy(alloc, line.bytes)?;
-    let strict = is_strict(line.bytes);
-    Ok(format!(in alloc; "{word} {} {strict} {}", line.is_ended, behind.len())?)
+    let signs = [line.is_ended, is_strict(line.bytes)];
+    Ok(format!(in alloc; "{word} {signs:?} {}", behind.len())?)
+}
+
+fn line_told(alloc: Global, text: &str) -> Result<String, Fail> {
+    let text = to_lines(alloc, text)?;
+    first_line(alloc, text.as_str().as_bytes())
 }
 
 #[test]
