@@ -7,10 +7,6 @@ mod found;
 mod laws;
 mod marks;
 mod row;
-#[cfg(test)]
-mod samples;
-#[cfg(test)]
-mod tests;
 mod ways;
 
 pub use closure::Closure;

@@ -8,5 +8,4 @@ pub mod Replies
 pub mod Runs
 pub mod Setting
 pub mod Sides
-pub mod Spelled
 pub mod Starts

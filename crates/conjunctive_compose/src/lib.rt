@@ -5,8 +5,6 @@ mod laws;
 mod making;
 mod step;
 mod system;
-#[cfg(test)]
-mod system_tests;
 mod whole;
 mod wish;
 

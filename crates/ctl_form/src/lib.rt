@@ -13,16 +13,10 @@ mod members;
 mod next_row;
 mod normal;
 mod normal_fault;
-#[cfg(test)]
-mod normal_tests;
 mod pair_spec;
 mod part;
 mod predecessors;
-#[cfg(test)]
-mod samples;
 mod solving;
-#[cfg(test)]
-mod tests;
 mod until_row;
 mod walking;
 

@@ -12,14 +12,10 @@ mod formula_fault;
 mod formula_laws;
 mod formula_parser;
 mod formula_reader;
-#[cfg(test)]
-mod formula_tests;
 mod formula_writer;
 mod graph_cause;
 mod item;
 mod laws;
-#[cfg(test)]
-mod limit_tests;
 mod line;
 mod long;
 mod names;
@@ -31,11 +27,7 @@ mod sign;
 mod spec;
 mod spec_laws;
 mod spec_writer;
-#[cfg(test)]
-mod spec_writer_tests;
 mod take;
-#[cfg(test)]
-mod tests;
 mod token;
 mod token_sign;
 

@@ -14,8 +14,6 @@ mod pruning;
 mod ranks;
 mod reaching;
 mod table;
-#[cfg(test)]
-mod tests;
 mod thinning;
 mod untils;
 mod visiting;

@@ -107,43 +107,7 @@ fn read_whole<F: Read>(file: &mut F, max: u64, into: &mut Vec<u8>) -> Result<(),
 #[cfg(test)]
 mod tests {
     use super::*;
-    use std::test::Fail;
-    use std::{io, process};
-
-    #[test]
-    fn takes_real_files(rt: HostRuntime) -> Result<(), Fail> {
-        let alloc = rt.alloc();
-        let name = format!(in alloc; "/tmp/edge_io_file_shelf_{}", process::id(rt.process()))?;
-        let missing = format!(in alloc; "{name}_missing")?;
-        let bytes: Vec<u8> = (0..40_000u32).map(|n| (n % 251) as u8).collect(alloc)?;
-        fs::write(&rt, name.as_str(), bytes.as_slice())?;
-        let mut shelf = FileShelf::new(&rt);
-        let rows = [
-            (name.as_str(), 40_000, Ok(()), 0, 0),
-            (name.as_str(), u64::MAX, Ok(()), 0, 0),
-            (name.as_str(), 39_999, Err(ShelfFault::Long), 0, 1),
-            (name.as_str(), 0, Err(ShelfFault::Long), 0, 2),
-            (missing.as_str(), 9, Err(ShelfFault::Failed), 1, 2),
-            ("/tmp", 9, Err(ShelfFault::Failed), 2, 2),
-        ];
-        for (name, max, answer, faults, longs) in rows {
-            let mut into = Vec::new(alloc);
-            assert_eq!(rt; shelf.take(name, max, &mut into), answer, "{name} {max}");
-            let want = if answer.is_ok() {
-                bytes.as_slice()
-            } else {
-                &[]
-            };
-            assert!(rt; into.as_slice() == want, "{name} {max}");
-            assert_eq!(rt;
-                (shelf.counts.faults, shelf.counts.longs),
-                (faults, longs),
-                "{name} {max}"
-            );
-        }
-        fs::remove_file(&rt, name.as_str())?;
-        Ok(())
-    }
+    use std::io;
 
     /// Gives so many single bytes, and then fails.
     #[derive(Drop)]

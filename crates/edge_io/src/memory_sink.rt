@@ -84,30 +84,3 @@ impl Sink for MemorySink {
         Ok(())
     }
 }
-
-#[cfg(test)]
-mod tests {
-    use super::*;
-    use std::test::Fail;
-
-    #[test]
-    fn refuses_as_told(rt: HostRuntime) -> Result<(), Fail> {
-        let alloc = rt.alloc();
-        let mut sink = MemorySink::new(alloc, 6, vec![in alloc; 1, 5]?)?;
-        let failed = Err(SinkFault::Failed);
-        let rows = [
-            ("one", Ok(()), "one", 0),
-            ("two", failed, "one", 1),
-            ("four", failed, "one", 2),
-            ("two", Ok(()), "onetwo", 2),
-            ("x", failed, "onetwo", 3),
-            ("x", failed, "onetwo", 4),
-        ];
-        for (piece, answer, bytes, faults) in rows {
-            assert_eq!(rt; sink.put(piece.as_bytes()), answer, "{piece}");
-            assert_eq!(rt; sink.bytes(), bytes.as_bytes(), "{piece}");
-            assert_eq!(rt; sink.faults, faults, "{piece}");
-        }
-        Ok(())
-    }
-}

@@ -72,13 +72,6 @@ mod tests {
     use super::*;
     use std::test::Fail;
 
-    #[test]
-    fn puts_a_text(rt: HostRuntime) {
-        let mut sink = OutSink::new(&rt);
-        assert_eq!(rt; sink.put(b"a short text\n"), Ok(()));
-        assert_eq!(rt; sink.faults, 0);
-    }
-
     /// Takes two bytes a write up to its room, and then none.
     #[derive(Drop)]
     struct Narrow {

@@ -9,10 +9,6 @@ mod outcome;
 mod projection;
 mod read;
 mod replaying;
-#[cfg(test)]
-mod spelled;
-#[cfg(test)]
-mod tests;
 mod write;
 
 pub use journal::{Entry, Journal};

@@ -8,8 +8,6 @@ mod fault;
 mod laws;
 mod neighbourhood;
 mod network;
-#[cfg(test)]
-mod network_tests;
 mod part_check;
 mod parts;
 

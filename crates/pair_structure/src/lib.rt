@@ -15,8 +15,6 @@ mod side;
 mod structure;
 mod structure_check;
 mod structure_fault;
-#[cfg(test)]
-mod structure_tests;
 
 pub use memory::Memory;
 pub use move_order::arrange;

@@ -9,8 +9,6 @@ mod laws;
 mod permission;
 mod skeleton;
 mod skeleton_text;
-#[cfg(test)]
-mod tests;
 
 pub use command::Command;
 pub use extraction::extract;

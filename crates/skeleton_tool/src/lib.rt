@@ -19,16 +19,3 @@ mod taking_both;
 mod taking_journal;
 
 pub use call::plan;
-
-#[cfg(test)]
-mod answered;
-#[cfg(test)]
-mod example_texts;
-#[cfg(test)]
-mod replay_tests;
-#[cfg(test)]
-mod skel_tests;
-#[cfg(test)]
-mod synthesis_tests;
-#[cfg(test)]
-mod tests;

@@ -9,8 +9,6 @@ mod read;
 mod reader;
 mod solution;
 mod take;
-#[cfg(test)]
-mod tests;
 mod write;
 
 pub use failing::first_failing;

@@ -4,8 +4,6 @@
 mod laws;
 mod line;
 mod numeral;
-#[cfg(test)]
-mod tests;
 mod word;
 
 pub use laws::{one_line, words_of_line};

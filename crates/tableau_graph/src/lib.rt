@@ -11,8 +11,6 @@ mod pushing;
 mod some_next;
 mod successors;
 mod tableau;
-#[cfg(test)]
-mod tests;
 
 pub use laws::{
     tableau_covers, tableau_follows_arcs, tableau_has_children, tableau_is_graph,

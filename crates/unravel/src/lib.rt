@@ -10,8 +10,6 @@ mod step;
 mod synthesis;
 mod tableau;
 mod target;
-#[cfg(test)]
-mod tests;
 mod turns;
 mod unravelling;
 

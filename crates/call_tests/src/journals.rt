@@ -1,0 +1,75 @@
+//! Journals of two lamps that are switched in turn: read, written, replayed, and projected on their edge.
+
+ghost use Rattle.firing_journal.specs.Journal.{JournalFits};
+
+use conjunctive_compose::{System, Wish};
+use firing_journal::{Journal, Replay, project, read_journal, replay, write_journal};
+use samples::{LAMP, TURN, system, to_slashes};
+use std::alloc::Global;
+use std::test::Fail;
+
+fn lamps(alloc: Global) -> Result<System, Fail> {
+    system(alloc, LAMP, TURN, "2*0", "0-1:0")
+}
+
+#[test]
+fn writes_what_it_reads(rt: HostRuntime) -> Result<(), Fail> {
+    let alloc = rt.alloc();
+    let text = b"journal 1\nentry 0 7 1 0 18446744073709551615\nentry 1 10 0 0 20\ndone\n";
+    let journal = read_journal(alloc, &lamps(alloc)?, text)?;
+    let mut written = Vec::new(alloc);
+    write_journal(alloc, &journal, &mut written)?;
+    assert_eq!(rt; written.as_slice(), text.as_slice());
+    Ok(())
+}
+
+/// The second process moves first, and then the other.
+fn made(alloc: Global) -> Result<Journal, Fail> {
+    let mut journal = Journal::new(alloc);
+    for process in [1, 0] {
+        let (arc, pick) = (0, 5);
+        journal.push(3, Wish { process, arc, pick })?;
+    }
+    Ok(journal)
+}
+
+#[test]
+fn writes_what_is_pushed(rt: HostRuntime) -> Result<(), Fail> {
+    let alloc = rt.alloc();
+    let journal = made(alloc)?;
+    let mut written = Vec::new(alloc);
+    write_journal(alloc, &journal, &mut written)?;
+    let wanted = "journal 1/entry 0 3 1 0 5/entry 1 3 0 0 5/done/";
+    assert_eq!(rt; to_slashes(alloc, &written)?.as_str(), wanted);
+    assert_eq!(rt; journal.entries().len(), 2);
+    Ok(())
+}
+
+/// What the run of the journal leaves, and what it does on edge 0.
+fn projected(alloc: Global, system: &System, journal: &Journal) -> Result<String, Fail>
+    requires { JournalFits system.now journal.now }
+{
+    if system.network().edges().is_empty() {
+        return Err(Fail::from("no edge"));
+    }
+    match replay(alloc, system, journal)? {
+        Replay::Run { moves, .. } => {
+            let path = project(alloc, system, journal, 0)?;
+            Ok(format!(in alloc; "{:?} {:?}", moves.as_slice(), path.as_slice())?)
+        }
+        Replay::NotARun { at, why } => Ok(format!(in alloc; "{at}: {why:?}")?),
+    }
+}
+
+#[test]
+fn projects_on_an_edge(rt: HostRuntime) -> Result<(), Fail> {
+    let alloc = rt.alloc();
+    let system = lamps(alloc)?;
+    let journal = made(alloc)?;
+    if !journal.fits(&system) {
+        return Err(Fail::from("a journal that does not fit"));
+    }
+    let wanted = "[1, 1] [PairMove { side: B, state: 1 }, PairMove { side: A, state: 2 }]";
+    assert_eq!(rt; projected(alloc, &system, &journal)?.as_str(), wanted);
+    Ok(())
+}

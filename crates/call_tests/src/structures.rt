@@ -1,0 +1,83 @@
+//! Structures over philosophers: the first fault of parts that make none, and what a structure tells.
+
+use crate::table::expect;
+use pair_structure::{PairStructure, Role, Side, arrange};
+use samples::{BOUND, FIRST, LAMP, labels, moves, role, structure};
+use std::alloc::Global;
+use std::process::Abort;
+use std::test::Fail;
+
+/// Labels and moves, and their first fault.
+const STRUCTURES: &str = "00 10 20 | 0a1 1a2 2a0 = 3 states
+ | 0a0 = no state
+01 30 |  = state 0 is not labelled with the starts
+00 22 30 03 | 0a9 = the label of state 2 names no local state
+00 20 | 0a1 0b2 = move 1 has an end that is no state
+00 10 | 2a1 = move 0 has an end that is no state
+00 11 02 | 0a1 0b2 = move 1 follows no arc
+00 10 | 0b1 = move 0 follows no arc
+00 10 11 | 0a1 0a1 0b2 = move 2 changes the other side
+00 10 | 0a1 0a1 = move 1 is not above the one before
+00 10 01 | 0b2 0a1 = move 1 is not above the one before
+00 10 20 00 | 0a1 2a3 = no move leaves state 1
+00 10 | 0a1 = no move leaves state 1";
+
+fn structure_told(alloc: Global, spelled: &str) -> Result<String, Fail> {
+    let role = role(alloc, BOUND)?;
+    let (states, steps) = spelled.split_once('|').ok_or("a structure")?;
+    let states = labels(alloc, states)?;
+    let moves = moves(alloc, steps)?;
+    match PairStructure::make(alloc, &role, &role, &states, &moves) {
+        Ok(m) => Ok(format!(in alloc; "{} states", m.states().len())?),
+        Err(fault) => Ok(format!(in alloc; "{fault}")?),
+    }
+}
+
+#[test]
+fn makes_structures_or_names_the_first_fault(rt: HostRuntime) -> Result<(), Fail> {
+    expect(&rt, rt.alloc(), STRUCTURES, structure_told)
+}
+
+/// Of each state its ordinal, and how many moves of a and of b leave it.
+const ORDINALS: &str = "0 1 1, 0 1 1, 0 1 1, 0 1 1, 0 1 0, 1 0 1, 0 1 1, 0 1 0, 0 0 1, ";
+
+fn ordinals(alloc: Global, m: &PairStructure) -> Result<String, Fail> {
+    let mut text = String::new(alloc);
+    for state in 0..m.states().len() as u64 {
+        let of_a = m.moves_of(state, Side::A).len();
+        let of_b = m.moves_of(state, Side::B).len();
+        text.push_str(format!(in alloc; "{} {of_a} {of_b}, ", m.ordinal(state))?.as_str())?;
+    }
+    Ok(text)
+}
+
+fn expect_roles(rt: &impl Abort, alloc: Global, m: &PairStructure, role: &Role) -> Result<(), Fail> {
+    let lamp = samples::role(alloc, LAMP)?;
+    assert!(rt; m.is_over(role, role) && !m.is_over(role, &lamp));
+    Ok(())
+}
+
+#[test]
+fn tells_states_moves_and_roles(rt: HostRuntime) -> Result<(), Fail> {
+    let alloc = rt.alloc();
+    let role = role(alloc, BOUND)?;
+    let made = structure(alloc, &role, &role, FIRST)?;
+    let copy = made.copy(alloc)?;
+    assert_eq!(rt; copy.moves(), made.moves());
+    assert_eq!(rt; ordinals(alloc, &copy)?.as_str(), ORDINALS);
+    let found = [
+        copy.state_at(1, 1, 1),
+        copy.state_at(1, 1, 2),
+        copy.state_at(255, 0, 0),
+    ];
+    assert_eq!(rt; found, [Some(5), None, None]);
+    expect_roles(&rt, alloc, &copy, &role)
+}
+
+#[test]
+fn arranges_by_from_then_side_then_to(rt: HostRuntime) -> Result<(), Fail> {
+    let mut unordered = moves(rt.alloc(), "1b0 0b1 0a2 1b0 0a1")?;
+    arrange(&mut unordered);
+    assert_eq!(rt; unordered.as_slice(), moves(rt.alloc(), "0a1 0a2 0b1 1b0")?.as_slice());
+    Ok(())
+}

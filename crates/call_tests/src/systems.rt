@@ -1,0 +1,129 @@
+//! Systems: what wishes are answered, one after another from the start, and what a whole state permits.
+
+ghost use Rattle.conjunctive_compose.specs.Whole.{IsProper};
+
+use crate::table::expect;
+use conjunctive_compose::{System, Whole, Wish};
+use samples::{BOUND, FIRST, FOUR, LAMP, TURN, system};
+use std::alloc::Global;
+use std::test::Fail;
+
+/// Processes, edges, and wishes as process, arc and pick; then the answers, and the whole state after them.
+const PHILOSOPHERS: &str = "3*0 | 0-1:0 1-2:0 0-2:0 | 0/0/0 0/1/0 1/0/0 1/1/0 = Moved, Moved, Moved, Blocked { neighbour: 0 }, [2, 1, 0] [0, 0, 0]
+3*0 | 1-2:0 0-2:0 0-1:0 | 1/0/0 0/0/0 2/0/0 2/1/0 = Moved, Moved, Moved, Blocked { neighbour: 0 }, [1, 1, 1] [0, 0, 1]
+0 |  | 0/0/0 0/1/0 0/2/0 = Moved, Moved, Moved, [0] []";
+
+const LAMPS: &str = "2*0 | 0-1:0 | 0/1/0 1/0/0 1/1/18446744073709551615 0/0/0 0/0/0 = Away { local: 0 }, Moved, Blocked { neighbour: 0 }, Moved, Away { local: 1 }, [1, 1] [0]";
+
+/// Of four permitted commands the picked one is taken.
+const PICKS: &str = "2*0 | 0-1:0 | 0/0/2 = Moved, [1, 0] [2]
+2*0 | 0-1:0 | 0/0/5 = Moved, [1, 0] [1]
+2*0 | 0-1:0 | 0/0/18446744073709551615 1/0/0 = Moved, Blocked { neighbour: 0 }, [1, 0] [3]";
+
+fn wish(spelled: &str) -> Result<Wish, Fail> {
+    let (process, rest) = spelled.split_once('/').ok_or("a wish")?;
+    let (arc, pick) = rest.split_once('/').ok_or("a wish")?;
+    Ok(Wish {
+        process: process.parse::<u32>()?,
+        arc: arc.parse::<u32>()?,
+        pick: pick.parse::<u64>()?,
+    })
+}
+
+fn answers(alloc: Global, system: &System, wishes: &str) -> Result<String, Fail> {
+    let mut w = system.start(alloc)?;
+    let mut text = String::new(alloc);
+    for word in wishes.split_whitespace() {
+        let wish = wish(word)?;
+        if !system.fits(wish) {
+            return Err(Fail::from("no such arc"));
+        }
+        let answer = system.step(&mut w, wish);
+        text.push_str(format!(in alloc; "{answer:?}, ")?.as_str())?;
+    }
+    let (locals, shared) = (w.locals.as_slice(), w.shared.as_slice());
+    text.push_str(format!(in alloc; "{locals:?} {shared:?}")?.as_str())?;
+    Ok(text)
+}
+
+fn told(alloc: Global, lines: &str, spelled: &str, asked: &str) -> Result<String, Fail> {
+    let (groups, rest) = asked.split_once('|').ok_or("processes")?;
+    let (joins, wishes) = rest.split_once('|').ok_or("edges")?;
+    let system = system(alloc, lines, spelled, groups, joins)?;
+    answers(alloc, &system, wishes)
+}
+
+fn philosophers_told(alloc: Global, asked: &str) -> Result<String, Fail> {
+    told(alloc, BOUND, FIRST, asked)
+}
+
+fn lamps_told(alloc: Global, asked: &str) -> Result<String, Fail> {
+    told(alloc, LAMP, TURN, asked)
+}
+
+fn picks_told(alloc: Global, asked: &str) -> Result<String, Fail> {
+    told(alloc, BOUND, FOUR, asked)
+}
+
+#[test]
+fn answers_wishes(rt: HostRuntime) -> Result<(), Fail> {
+    expect(&rt, rt.alloc(), PHILOSOPHERS, philosophers_told)?;
+    expect(&rt, rt.alloc(), LAMPS, lamps_told)?;
+    expect(&rt, rt.alloc(), PICKS, picks_told)
+}
+
+/// Whether the edge's other process permits the arc, where all of them exist.
+fn permitted(system: &System, w: &Whole, process: u32, arc: u32, edge: u32) -> Option<bool>
+    requires { IsProper system.now w.now }
+{
+    let pick = 0;
+    if !system.fits(Wish { process, arc, pick })
+        || edge as usize >= system.network().edges().len()
+    {
+        return None;
+    }
+    let ends = system.network().edges()[edge as usize];
+    if ends.a == process || ends.b == process {
+        return Some(system.permits(w, process, arc, edge));
+    }
+    None
+}
+
+#[test]
+fn permits_by_edge(rt: HostRuntime) -> Result<(), Fail> {
+    let system = system(rt.alloc(), LAMP, TURN, "3*0", "0-1:0 1-2:0")?;
+    let w = system.start(rt.alloc())?;
+    let permits = [
+        permitted(&system, &w, 1, 0, 0),
+        permitted(&system, &w, 1, 0, 1),
+        permitted(&system, &w, 2, 0, 1),
+    ];
+    assert_eq!(rt; permits, [Some(true), Some(false), Some(true)]);
+    Ok(())
+}
+
+/// The state of the first edge's pair, and the count of moves of its structure.
+fn pair_told(alloc: Global, system: &System, w: &Whole) -> Result<String, Fail>
+    requires { IsProper system.now w.now }
+{
+    if system.network().edges().is_empty() || system.network().ends().is_empty() {
+        return Err(Fail::from("no edge"));
+    }
+    let moves = system.structure(0).moves().len();
+    Ok(format!(in alloc; "{} {moves}", system.pair_state(w, 0))?)
+}
+
+#[test]
+fn tells_the_pair_state(rt: HostRuntime) -> Result<(), Fail> {
+    let alloc = rt.alloc();
+    let system = system(alloc, LAMP, TURN, "2*0", "0-1:0")?;
+    let mut w = system.start(alloc)?;
+    let wish = wish("1/0/0")?;
+    if !system.fits(wish) {
+        return Err(Fail::from("no such arc"));
+    }
+    assert_eq!(rt; pair_told(alloc, &system, &w)?.as_str(), "0 4");
+    system.step(&mut w, wish);
+    assert_eq!(rt; pair_told(alloc, &system, &w)?.as_str(), "1 4");
+    Ok(())
+}

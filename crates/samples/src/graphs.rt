@@ -1,0 +1,46 @@
+//! Processes, spelled as their roles, `3*0` for three of role 0, and edges, spelled as two processes and a kind: `0-1:0`.
+
+ghost use Rattle.std.specs.Prelude.{◌≤◌, length, IfOk};
+
+use interconnection::{Edge, Process};
+use pair_structure::Name;
+use std::alloc::Global;
+use std::test::Fail;
+
+/// The processes that are spelled so.
+pub fn processes(alloc: Global, groups: &str) -> Result<Vec<Process>, Fail> {
+    let mut processes = Vec::new(alloc);
+    for group in groups.split_whitespace() {
+        let (count, role) = group.split_once('*').unwrap_or(("1", group));
+        let role = role.parse::<u8>()?;
+        for _ in 0..count.parse::<u32>()? {
+            let name = Name::make(alloc, "p")?;
+            processes.push(Process { name, role })?;
+        }
+    }
+    Ok(processes)
+}
+
+/// The edges that are spelled so, of which there are at most 1,000.
+pub fn edges(alloc: Global, joins: &str) -> Result<Vec<Edge>, Fail>
+    ensures { IfOk result (λ edges. length edges.items ≤ 1000) }
+{
+    let mut edges = Vec::new(alloc);
+    for join in joins.split_whitespace() {
+        edges.push(edge(join)?)?;
+    }
+    if edges.len() > 1000 {
+        return Err(Fail::from("many edges"));
+    }
+    Ok(edges)
+}
+
+fn edge(join: &str) -> Result<Edge, Fail> {
+    let (pair, kind) = join.split_once(':').ok_or("an edge")?;
+    let (a, b) = pair.split_once('-').ok_or("an edge")?;
+    Ok(Edge {
+        a: a.parse::<u32>()?,
+        b: b.parse::<u32>()?,
+        kind: kind.parse::<u8>()?,
+    })
+}

@@ -1,0 +1,17 @@
+//! Samples for tests, spelled as short texts: roles, formulas, kinds and closures as the lines of a specification, structures by their
+//! labels and moves, processes and edges by their numbers.
+#![tactic(auto)]
+
+mod graphs;
+mod kinds;
+mod structures;
+mod systems;
+mod texts;
+
+pub use graphs::{edges, processes};
+pub use kinds::{closure, conjuncts, first_role, formula, normal, pair, role, spec};
+pub use structures::{labels, moves, structure};
+pub use systems::system;
+pub use texts::{
+    BOUND, FAIR, FIRST, FOUR, LAMP, LAST, PHIL, PRIOR, TURN, UNBARRED, to_slashes, to_lines,
+};
