@@ -7,7 +7,7 @@ use std::alloc::Global;
 use std::marker::Model;
 
 /// The clauses of a kind, in their order. Contracts see the formulas' trees, without where they lie in memory.
-#[derive(Debug, Drop)]
+#[derive(Drop)]
 pub struct Clauses {
     forms: Vec<Formula>,
 }

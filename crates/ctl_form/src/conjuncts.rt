@@ -62,6 +62,7 @@ fn free_arc(alloc: Global, side: Side, arc: LocalArc) -> Result<Formula, Memory>
 #[cfg(test)]
 mod tests {
     use super::*;
+    use crate::code::code_of;
     use crate::samples::{exclusion, mutex, philosopher};
     use std::test::Fail;
 
@@ -71,17 +72,19 @@ mod tests {
         let role = philosopher(alloc)?;
         let spec = mutex(alloc, Vec::from_array(alloc, [exclusion(alloc)?])?)?;
         let forms = whole(alloc, &spec, &role, &role)?;
-        let wanted = [
-            "Always { all: true, f: Not(And(At { side: A, local: 2 }, At { side: B, local: 2 })) }",
-            "Always { all: true, f: Implies(At { side: A, local: 0 }, Next { all: false, side: Some(A), f: At { side: A, local: 1 } }) }",
-            "Always { all: true, f: Implies(At { side: A, local: 2 }, Next { all: false, side: Some(A), f: At { side: A, local: 0 } }) }",
-            "Always { all: true, f: Implies(At { side: B, local: 0 }, Next { all: false, side: Some(B), f: At { side: B, local: 1 } }) }",
-            "Always { all: true, f: Implies(At { side: B, local: 2 }, Next { all: false, side: Some(B), f: At { side: B, local: 0 } }) }",
+        let wanted: [&[u8]; 5] = [
+            // AG !(a2 & b2)
+            &[8, 1, 3, 4, 2, 0, 2, 2, 1, 2],
+            // AG (a0 -> EXa a1), AG (a2 -> EXa a0), and the same of b
+            &[8, 1, 6, 2, 0, 0, 7, 0, 1, 2, 0, 1],
+            &[8, 1, 6, 2, 0, 2, 7, 0, 1, 2, 0, 0],
+            &[8, 1, 6, 2, 1, 0, 7, 0, 2, 2, 1, 1],
+            &[8, 1, 6, 2, 1, 2, 7, 0, 2, 2, 1, 0],
         ];
         assert_eq!(rt; forms.len(), wanted.len());
-        for (form, text) in forms.iter().zip(wanted) {
-            let printed = format!(in alloc; "{form:?}")?;
-            assert_eq!(rt; printed.as_str(), text);
+        for (form, code) in forms.iter().zip(wanted) {
+            let made = code_of(alloc, form)?;
+            assert_eq!(rt; made.as_slice(), code);
         }
         Ok(())
     }
@@ -91,10 +94,12 @@ mod tests {
         let alloc = rt.alloc();
         let spec = mutex(alloc, Vec::from_array(alloc, [exclusion(alloc)?])?)?;
         let made = spec.clauses.copy(alloc)?;
-        let printed = format!(in alloc; "{made:?}")?;
-        let wanted =
-            "Clauses { forms: [Always { all: true, f: Not(And(At { side: A, local: 2 }, At { side: B, local: 2 })) }] }";
-        assert_eq!(rt; printed.as_str(), wanted);
+        assert_eq!(rt; made.len(), 1);
+        for (form, copy) in spec.clauses.as_slice().iter().zip(made.as_slice()) {
+            let code = code_of(alloc, form)?;
+            let code_of_copy = code_of(alloc, copy)?;
+            assert_eq!(rt; code.as_slice(), code_of_copy.as_slice());
+        }
         Ok(())
     }
 }
