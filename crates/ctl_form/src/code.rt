@@ -15,60 +15,48 @@ pub(crate) fn code_of(alloc: Global, f: &Formula) -> Result<Vec<u8>, Memory>
     Ok(code)
 }
 
+#[cycle(coding)]
 fn push_code(f: &Formula, code: &mut Vec<u8>) -> Result<(), Memory>
     ensures { OnOk result (code.new.items ≡ code.old.items ++ numbers (form_of f.now)) }
 {
     match f {
         Formula::Yes => code.push(0)?,
         Formula::No => code.push(1)?,
-        Formula::At { side, local } => {
-            code.push(2)?;
-            code.push(side_of(*side))?;
-            code.push(*local)?;
-        }
-        Formula::Not(f) => {
-            code.push(3)?;
-            push_code(f, code)?;
-        }
-        Formula::And(f, g) => {
-            code.push(4)?;
-            push_code(f, code)?;
-            push_code(g, code)?;
-        }
-        Formula::Or(f, g) => {
-            code.push(5)?;
-            push_code(f, code)?;
-            push_code(g, code)?;
-        }
-        Formula::Implies(f, g) => {
-            code.push(6)?;
-            push_code(f, code)?;
-            push_code(g, code)?;
-        }
+        Formula::At { side, local } => code.extend_from_slice(&[2, side_of(*side), *local])?,
+        Formula::Not(f) => push_one(&[3], f, code)?,
+        Formula::And(f, g) => push_both(&[4], f, g, code)?,
+        Formula::Or(f, g) => push_both(&[5], f, g, code)?,
+        Formula::Implies(f, g) => push_both(&[6], f, g, code)?,
         Formula::Next { all, side, f } => {
-            code.push(7)?;
-            code.push(bit_of(*all))?;
-            code.push(any_side_of(*side))?;
-            push_code(f, code)?;
+            push_one(&[7, bit_of(*all), any_side_of(*side)], f, code)?
         }
-        Formula::Always { all, f } => {
-            code.push(8)?;
-            code.push(bit_of(*all))?;
-            push_code(f, code)?;
-        }
-        Formula::Sometime { all, f } => {
-            code.push(9)?;
-            code.push(bit_of(*all))?;
-            push_code(f, code)?;
-        }
+        Formula::Always { all, f } => push_one(&[8, bit_of(*all)], f, code)?,
+        Formula::Sometime { all, f } => push_one(&[9, bit_of(*all)], f, code)?,
         Formula::Until { all, weak, f, g } => {
-            code.push(10)?;
-            code.push(bit_of(*all))?;
-            code.push(bit_of(*weak))?;
-            push_code(f, code)?;
-            push_code(g, code)?;
+            push_both(&[10, bit_of(*all), bit_of(*weak)], f, g, code)?
         }
     }
+    Ok(())
+}
+
+/// What an operator says, and then its part.
+#[cycle(coding)]
+fn push_one(says: &[u8], f: &Formula, code: &mut Vec<u8>) -> Result<(), Memory>
+    ensures { OnOk result (code.new.items ≡ code.old.items ++ (says.now ++ numbers (form_of f.now))) }
+{
+    code.extend_from_slice(says)?;
+    push_code(f, code)?;
+    Ok(())
+}
+
+/// What an operator says, and then its two parts.
+#[cycle(coding)]
+fn push_both(says: &[u8], f: &Formula, g: &Formula, code: &mut Vec<u8>) -> Result<(), Memory>
+    ensures { OnOk result (code.new.items ≡ code.old.items ++ (says.now ++ (numbers (form_of f.now) ++ numbers (form_of g.now)))) }
+{
+    code.extend_from_slice(says)?;
+    push_code(f, code)?;
+    push_code(g, code)?;
     Ok(())
 }
 

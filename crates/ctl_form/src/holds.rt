@@ -1,6 +1,6 @@
 ghost use Rattle.std.specs.Prelude.{◌≡◌, ◌↔◌, ℕ, length, true, IsTrue, IfOk, OnOk};
 ghost use Rattle.pair_structure.specs.Structure.{GoesOn};
-ghost use Rattle.ctl_form.specs.Form.{form_of};
+ghost use Rattle.ctl_form.specs.Form.{Form, form_of, always, sometime, until};
 ghost use Rattle.ctl_form.specs.Known.{AreKnown};
 ghost use Rattle.ctl_form.specs.Predecessors.{ArePredecessors};
 ghost use Rattle.ctl_form.specs.Row.{IsAt, IsRowOf, IsTruthOf, local_of};
@@ -75,18 +75,15 @@ fn labelled(
         Formula::At { side, local } => local_row(alloc, m, *side, *local),
         Formula::Not(f) => truth_row(alloc, m, predecessors, known, f)?.not(alloc),
         Formula::And(f, g) => {
-            let p = truth_row(alloc, m, predecessors, known, f)?;
-            let q = truth_row(alloc, m, predecessors, known, g)?;
+            let (p, q) = both_rows(alloc, m, predecessors, known, f, g)?;
             p.and(alloc, &q)
         }
         Formula::Or(f, g) => {
-            let p = truth_row(alloc, m, predecessors, known, f)?;
-            let q = truth_row(alloc, m, predecessors, known, g)?;
+            let (p, q) = both_rows(alloc, m, predecessors, known, f, g)?;
             p.or(alloc, &q)
         }
         Formula::Implies(f, g) => {
-            let p = truth_row(alloc, m, predecessors, known, f)?;
-            let q = truth_row(alloc, m, predecessors, known, g)?;
+            let (p, q) = both_rows(alloc, m, predecessors, known, f, g)?;
             p.implies(alloc, &q)
         }
         Formula::Next { all, side, f } => {
@@ -95,42 +92,94 @@ fn labelled(
         }
         Formula::Always { all, f } => {
             let p = truth_row(alloc, m, predecessors, known, f)?;
-            let never = BitRow::none(alloc, states)?;
-            along_row(alloc, m, predecessors, *all, true, &p, &never)
+            always_row(alloc, m, predecessors, *all, p)
         }
         Formula::Sometime { all, f } => {
             let p = truth_row(alloc, m, predecessors, known, f)?;
-            let ever = BitRow::all(alloc, states)?;
-            along_row(alloc, m, predecessors, *all, false, &ever, &p)
+            sometime_row(alloc, m, predecessors, *all, p)
         }
         Formula::Until { all, weak, f, g } => {
-            let p = truth_row(alloc, m, predecessors, known, f)?;
-            let q = truth_row(alloc, m, predecessors, known, g)?;
-            along_row(alloc, m, predecessors, *all, *weak, &p, &q)
+            let rows = both_rows(alloc, m, predecessors, known, f, g)?;
+            along_row(alloc, m, predecessors, *all, *weak, &rows)
         }
     }
 }
 
-/// An until of any of the four kinds.
+#[cycle(labelling)]
+fn both_rows(
+    alloc: Global,
+    m: &PairStructure,
+    predecessors: &Predecessors,
+    known: &mut Known,
+    f: &Formula,
+    g: &Formula,
+) -> Result<(BitRow, BitRow), Memory>
+    requires predecessors { ArePredecessors m.now predecessors.now.begins.items predecessors.now.sources.items }
+    requires known { AreKnown m.now known.old }
+    ensures first { IfOk result (λ rows. IsTruthOf m.now (form_of f.now) rows.0) }
+    ensures second { IfOk result (λ rows. IsTruthOf m.now (form_of g.now) rows.1) }
+    ensures known { OnOk result (AreKnown m.now known.new) }
+{
+    let p = truth_row(alloc, m, predecessors, known, f)?;
+    let q = truth_row(alloc, m, predecessors, known, g)?;
+    Ok((p, q))
+}
+
+/// A weak until of what never holds.
+fn always_row(
+    alloc: Global,
+    m: &PairStructure,
+    predecessors: &Predecessors,
+    all: bool,
+    p: BitRow,
+) -> Result<BitRow, Memory>
+    requires goes_on { GoesOn m.now }
+    requires predecessors { ArePredecessors m.now predecessors.now.begins.items predecessors.now.sources.items }
+    requires long { length p ≡ length m.now.states }
+    ensures { (f : Form) → IsTruthOf m.now f p → IfOk result (IsTruthOf m.now (always all f)) }
+{
+    let never = BitRow::none(alloc, m.states().len())?;
+    let rows = (p, never);
+    along_row(alloc, m, predecessors, all, true, &rows)
+}
+
+/// An until that waits without a condition.
+fn sometime_row(
+    alloc: Global,
+    m: &PairStructure,
+    predecessors: &Predecessors,
+    all: bool,
+    p: BitRow,
+) -> Result<BitRow, Memory>
+    requires goes_on { GoesOn m.now }
+    requires predecessors { ArePredecessors m.now predecessors.now.begins.items predecessors.now.sources.items }
+    requires long { length p ≡ length m.now.states }
+    ensures { (f : Form) → IsTruthOf m.now f p → IfOk result (IsTruthOf m.now (sometime all f)) }
+{
+    let ever = BitRow::all(alloc, m.states().len())?;
+    let rows = (ever, p);
+    along_row(alloc, m, predecessors, all, false, &rows)
+}
+
+/// An until of any of the four kinds, from the rows of its two parts.
 fn along_row(
     alloc: Global,
     m: &PairStructure,
     predecessors: &Predecessors,
     all: bool,
     weak: bool,
-    p: &BitRow,
-    q: &BitRow,
+    rows: &(BitRow, BitRow),
 ) -> Result<BitRow, Memory>
     requires goes_on { GoesOn m.now }
     requires predecessors { ArePredecessors m.now predecessors.now.begins.items predecessors.now.sources.items }
-    requires p_long { length p.now ≡ length m.now.states }
-    requires q_long { length q.now ≡ length m.now.states }
-    ensures { IfOk result (IsRowOf (length m.now.states) (AlongPaths m.now all weak (IsAt p.now) (IsAt q.now))) }
+    requires p_long { length rows.now.0 ≡ length m.now.states }
+    requires q_long { length rows.now.1 ≡ length m.now.states }
+    ensures { (f g : Form) → IsTruthOf m.now f rows.now.0 → IsTruthOf m.now g rows.now.1 → IfOk result (IsTruthOf m.now (until all weak f g)) }
 {
     if weak {
-        unless_row(alloc, m, predecessors, all, p, q)
+        unless_row(alloc, m, predecessors, all, &rows.0, &rows.1)
     } else {
-        until_row(alloc, m, predecessors, all, p, q)
+        until_row(alloc, m, predecessors, all, &rows.0, &rows.1)
     }
 }
 

@@ -1,6 +1,7 @@
 ghost use Rattle.std.specs.Prelude.{◌≡◌, ◌<◌, ◌↔◌, length, true, false, IsTrue, IfOk};
 ghost use Rattle.pair_structure.specs.Structure.{GoesOn};
-ghost use Rattle.ctl_form.specs.Row.{IsAt, IsRowOf};
+ghost use Rattle.ctl_form.specs.Form.{Form, next};
+ghost use Rattle.ctl_form.specs.Row.{IsAt, IsRowOf, IsTruthOf};
 ghost use Rattle.ctl_form.specs.Next.{IsOf};
 ghost use Rattle.ctl_form.specs.Truth.{After};
 
@@ -18,7 +19,7 @@ pub(crate) fn next_row(
 ) -> Result<BitRow, Memory>
     requires goes_on { GoesOn m.now }
     requires p_long { length p.now ≡ length m.now.states }
-    ensures { IfOk result (IsRowOf (length m.now.states) (After m.now all side (IsAt p.now))) }
+    ensures { (f : Form) → IsTruthOf m.now f p.now → IfOk result (IsTruthOf m.now (next all side f)) }
 {
     if all {
         each_next(alloc, m, side, p)

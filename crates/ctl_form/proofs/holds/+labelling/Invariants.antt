@@ -1,0 +1,13 @@
+use Rattle.std.proofs.Common.{ℕ, ◌+◌, ◌*◌}
+use Rattle.ctl_form.specs.Form.{form_of}
+use Rattle.ctl_form.specs.Walking.{operators}
+use Rattle.ctl_form.proofs.holds.«+labelling».Given as goal
+
+abbrev pub decreases-truth_row : goal.decreases-truth_row
+decreases-truth_row l = 3 * operators (form_of l.f.now) + 1
+
+abbrev pub decreases-labelled : goal.decreases-labelled
+decreases-labelled l = 3 * operators (form_of l.f.now)
+
+abbrev pub decreases-both_rows : goal.decreases-both_rows
+decreases-both_rows l = 3 * (operators (form_of l.f.now) + operators (form_of l.g.now)) + 2
