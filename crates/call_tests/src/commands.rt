@@ -1,6 +1,6 @@
 //! `plan` over files and an output in memory, of which a call may fail.
 
-use crate::table::expect;
+use crate::table::{agree, expect};
 use edge_io::{MemoryShelf, MemorySink};
 use samples::{PHIL, to_lines, to_slashes};
 use skeleton_tool::plan;
@@ -11,7 +11,8 @@ use std::test::Fail;
 const KIND: &str = "kind k phil phil/require AG !(a.C & b.C)/end/process p phil/";
 
 /// A solution of it: of two that wait, side a goes.
-const SOLUTION: &str = "solution 1/kind k/state N N/state T N/state N T/state C N/state T T/state N C/state C T/state T C/move 0 a 1/move 0 b 2/move 1 a 3/move 1 b 4/move 2 a 4/move 2 b 5/move 3 a 0/move 3 b 6/move 4 a 6/move 5 a 7/move 5 b 0/move 6 a 2/move 7 b 1/end/done/";
+const SOLUTION: &str =
+    "solution 1/kind k/state N N/state T N/state N T/state C N/state T T/state N C/state C T/state T C/move 0 a 1/move 0 b 2/move 1 a 3/move 1 b 4/move 2 a 4/move 2 b 5/move 3 a 0/move 3 b 6/move 4 a 6/move 5 a 7/move 5 b 0/move 6 a 2/move 7 b 1/end/done/";
 
 const JOURNAL: &str = "journal 1/entry 0 0 0 0 0/done/";
 
@@ -25,18 +26,22 @@ const CALLS: &str = "9 9 prove spec sol = 0 solves/
 1 9 prove spec sol = 5 read fault solution/
 1 9 skel spec sol = 5 read fault solution/
 2 9 replay spec sol journal = 5 read fault journal/
-9 0 synth spec = 6 
-9 0 prove spec sol = 6 
-9 0 skel spec sol = 6 
-9 0 replay spec sol journal = 6 
-9 0 synth other = 6 
-9 0 synth = 6 
+9 0 synth spec = 6
+9 0 prove spec sol = 6
+9 0 skel spec sol = 6
+9 0 replay spec sol journal = 6
+9 0 synth other = 6
+9 0 synth = 6
 9 9 synth - = 1 usage:/  synth SPEC/  prove SPEC SOL/  skel SPEC SOL/  replay SPEC SOL JOURNAL/";
 
 fn files(alloc: Global) -> Result<Vec<(String, Vec<u8>)>, Fail> {
     let spec = format!(in alloc; "pairs 1/{PHIL}{KIND}done/")?;
     let mut files = Vec::new(alloc);
-    for (name, text) in [("spec", spec.as_str()), ("sol", SOLUTION), ("journal", JOURNAL)] {
+    for (name, text) in [
+        ("spec", spec.as_str()),
+        ("sol", SOLUTION),
+        ("journal", JOURNAL),
+    ] {
         let text = to_lines(alloc, text)?;
         let bytes = Vec::from_slice(alloc, text.as_str().as_bytes())?;
         files.push((String::from_str(alloc, name)?, bytes))?;
@@ -44,22 +49,27 @@ fn files(alloc: Global) -> Result<Vec<(String, Vec<u8>)>, Fail> {
     Ok(files)
 }
 
-fn planned(alloc: Global, words: &str, shelf: u64, sink: u64) -> Result<(u8, String), Fail> {
+/// The status of `plan`.
+fn status(alloc: Global, words: &[String], shelf: &mut MemoryShelf, sink: &mut MemorySink) -> u8 {
+    plan(alloc, words, shelf, sink)
+}
+
+fn planned(alloc: Global, words: &str, shelf: u64, sink: u64) -> Result<String, Fail> {
     let mut owned = Vec::new(alloc);
     for word in words.split(' ') {
         owned.push(String::from_str(alloc, word)?)?;
     }
     let mut shelf = MemoryShelf::new(files(alloc)?, vec![in alloc; shelf]?);
     let mut sink = MemorySink::new(alloc, 4_096, vec![in alloc; sink]?)?;
-    let status = plan(alloc, &owned, &mut shelf, &mut sink);
-    Ok((status, to_slashes(alloc, sink.bytes())?))
+    let status = status(alloc, &owned, &mut shelf, &mut sink);
+    let text = to_slashes(alloc, sink.bytes())?;
+    Ok(format!(in alloc; "{status} {text}")?)
 }
 
 fn told(alloc: Global, asked: &str) -> Result<String, Fail> {
     let (shelf, rest) = asked.split_once(' ').ok_or("a call")?;
     let (sink, words) = rest.split_once(' ').ok_or("a put")?;
-    let (status, text) = planned(alloc, words, shelf.parse::<u64>()?, sink.parse::<u64>()?)?;
-    Ok(format!(in alloc; "{status} {text}")?)
+    planned(alloc, words, shelf.parse::<u64>()?, sink.parse::<u64>()?)
 }
 
 #[test]
@@ -67,13 +77,17 @@ fn answers_each_command(rt: HostRuntime) -> Result<(), Fail> {
     expect(&rt, rt.alloc(), CALLS, told)
 }
 
-/// `synth` gives a solution, and `skel` its commands.
+/// `synth` gives a solution, and `skel` its commands: how these begin.
+fn long_told(alloc: Global) -> Result<String, Fail> {
+    let made = told(alloc, "9 9 synth spec")?;
+    let shown = told(alloc, "9 9 skel spec sol")?;
+    let first = made.as_str().get(..29).ok_or("a long text")?;
+    let second = shown.as_str().get(..35).ok_or("a long text")?;
+    Ok(format!(in alloc; "{first}; {second}")?)
+}
+
 #[test]
 fn answers_with_long_texts(rt: HostRuntime) -> Result<(), Fail> {
-    let alloc = rt.alloc();
-    let synthesized = told(alloc, "9 9 synth spec")?;
-    assert!(rt; synthesized.as_str().starts_with("0 solution 1/kind k/state N N/"));
-    let shown = told(alloc, "9 9 skel spec sol")?;
-    assert!(rt; shown.as_str().starts_with("0 skeleton 1/kind k/side a/arc N T/command N 0 0/"));
-    Ok(())
+    let wanted = "0 solution 1/kind k/state N N; 0 skeleton 1/kind k/side a/arc N T/";
+    agree(&rt, long_told(rt.alloc()), wanted)
 }
