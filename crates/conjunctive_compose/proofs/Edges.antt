@@ -7,7 +7,8 @@ use Rattle.skeleton_extract.specs.Commands.{IsSkeleton}
 use Rattle.interconnection.specs.declared.parts.Edge.{Edge}
 use Rattle.interconnection.specs.declared.parts.Process.{Process}
 use Rattle.interconnection.specs.Network.{HasRole, HasRoles, IsInRange, JoinsTwo, role_of as role_number}
-use Rattle.conjunctive_compose.specs.System.{SystemParts, IsSystem, edge_at, edge_count, lists_at, process_count, role_a, role_b, role_numbered, role_of, structure_at}
+use Rattle.pair_structure.specs.Parts.{role_at}
+use Rattle.conjunctive_compose.specs.System.{SystemParts, IsSystem, edge_at, edge_count, lists_at, process_count, role_a, role_b, role_of, structure_at}
 
 -- what edge e joins
 pub record IsLawfulEdge (sys : SystemParts) (e : ℕ) : Type 0 where
@@ -25,8 +26,8 @@ edge_lawful sys e system lt =
     let two = All-get_or JoinsTwo net.edges e d lt system.network.joins_two in
     let roles = All-get_or (HasRoles net.ends net.processes) net.edges e d lt system.network.matching in
     let kind = (edge_at sys e).kind in
-    let a : role_of sys (edge_at sys e).a ≡ role_a net kind = ap {B = RoleParts} (role_numbered net.roles) roles.0 in
-    let b : role_of sys (edge_at sys e).b ≡ role_b net kind = ap {B = RoleParts} (role_numbered net.roles) roles.1 in
+    let a : role_of sys (edge_at sys e).a ≡ role_a net kind = ap {B = RoleParts} (role_at net.roles) roles.0 in
+    let b : role_of sys (edge_at sys e).b ≡ role_b net kind = ap {B = RoleParts} (role_at net.roles) roles.1 in
     record {
       a = range.0;
       b = range.1;

@@ -1,6 +1,8 @@
 pub mod Commands
 pub mod Edges
 pub mod Filters
+pub mod Looks
+pub mod Near
 pub mod Neighbours
 pub mod Pairs
 pub mod Permissions

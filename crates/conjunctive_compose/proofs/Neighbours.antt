@@ -5,7 +5,8 @@ use Rattle.std.proofs.lemmas.List.{get_or_default}
 use Rattle.std.proofs.lemmas.List.Elements.{Contains-get_or}
 use Rattle.pair_structure.specs.declared.side.Side.{Side}
 use Rattle.interconnection.specs.declared.parts.Beside.{Beside}
-use Rattle.interconnection.specs.Graph.{AreNeighbours, IsBeside, end_of, opposite}
+use Rattle.interconnection.specs.Graph.{AreNeighbours, IsBeside, end_of}
+use Rattle.pair_structure.specs.Sides.{opposite}
 use Rattle.conjunctive_compose.specs.declared.wish.Wish.{Wish}
 use Rattle.conjunctive_compose.specs.System.{SystemParts, IsOn, edge_at, edge_count}
 use Rattle.conjunctive_compose.specs.Whole.{WholeParts}

@@ -9,13 +9,14 @@ use Rattle.pair_structure.specs.declared.side.Side.{Side}
 use Rattle.pair_structure.specs.declared.side.Side.TheVariants.{A, B}
 use Rattle.pair_structure.specs.Ordinal.{IsStateAt}
 use Rattle.pair_structure.specs.Role.{JoinsTwo}
-use Rattle.pair_structure.specs.RoleFault.{arc_at}
-use Rattle.skeleton_extract.specs.Commands.{IsCommand, IsListed, arcs_of, commands_of}
+use Rattle.pair_structure.specs.Parts.{arc_at}
+use Rattle.pair_structure.specs.Sides.{arcs_of, opposite, local_of, with_local}
+use Rattle.skeleton_extract.specs.Commands.{IsCommand, IsListed, commands_of}
 use Rattle.skeleton_extract.specs.Permission.{picked}
-use Rattle.skeleton_extract.specs.Sides.{opposite as opposite_side, part, with_part}
 use Rattle.skeleton_extract.proofs.Moving.{command_moves}
 use Rattle.skeleton_extract.proofs.OnePairState.{one_pair_state}
-use Rattle.interconnection.specs.Graph.{end_of, opposite}
+use Rattle.skeleton_extract.proofs.Sides.{same_pairs}
+use Rattle.interconnection.specs.Graph.{end_of}
 use Rattle.conjunctive_compose.specs.declared.wish.Wish.{Wish}
 use Rattle.conjunctive_compose.specs.System.{SystemParts, IsSystem, IsOn, edge_at, edge_count, lists_at, process_count, role_of, side_on, structure_at}
 use Rattle.conjunctive_compose.specs.Whole.{WholeParts, IsProper, HasPair, label_on, local_at, value_at}
@@ -23,10 +24,7 @@ use Rattle.conjunctive_compose.specs.Firing.{Moves, across, arc_of, fired, permi
 use Rattle.conjunctive_compose.specs.Laws.{KeepsPairs, PairStep}
 use Rattle.conjunctive_compose.proofs.Edges.{IsLawfulEdge, edge_lawful, role_lawful}
 use Rattle.conjunctive_compose.proofs.Filters.{picked_is}
-use Rattle.conjunctive_compose.proofs.Sides.{across_differs, by_side, part_across, side_known, side_none}
-
-pub same_pairs : (a b c d : ℕ) → a ≡ c → b ≡ d → ◌≡◌ {A = ℕ × ℕ} (a, b) (c, d)
-same_pairs a b c d p q = cc
+use Rattle.conjunctive_compose.proofs.Sides.{across_differs, by_side, side_known, side_none}
 
 pub value_fired : (sys : SystemParts) (w : WholeParts) (wish : Wish) (e : ℕ) → e < length w.shared → value_at (fired sys w wish) e ≡ value_after sys w wish e
 value_fired sys w wish e lt = get_or-map-range_with_len (value_after sys w wish) 0 (length w.shared) e e 0 lt (omega arith)
@@ -39,17 +37,17 @@ own_local sys w wish lt = get_or-set_same w.locals wish.process (arc_of sys wish
 
 -- the label of an edge of the process that fires
 pub label_fired : (sys : SystemParts) (w : WholeParts) (wish : Wish) (e : ℕ) (side : Side) → wish.process < length w.locals → end_of (edge_at sys e) side ≡ wish.process → end_of (edge_at sys e) (opposite side) ≢ wish.process
-    → label_on sys (fired sys w wish) e ≡ with_part side (label_on sys w e) (arc_of sys wish.process wish.arc).to
+    → label_on sys (fired sys w wish) e ≡ with_local side (label_on sys w e) (arc_of sys wish.process wish.arc).to
 label_fired sys w wish e A lt on off = same_pairs _ _ _ _ (rw on (own_local sys w wish lt)) (other_local sys w wish (edge_at sys e).b off)
 label_fired sys w wish e B lt on off = same_pairs _ _ _ _ (other_local sys w wish (edge_at sys e).a off) (rw on (own_local sys w wish lt))
 
-pub arcs_are : (sys : SystemParts) (e k : ℕ) (side : Side) → IsOn sys k side e → arcs_of (role_of sys (edge_at sys e).a) (role_of sys (edge_at sys e).b) side ≡ (role_of sys k).arcs
+pub arcs_are : (sys : SystemParts) (e k : ℕ) (side : Side) → IsOn sys k side e → arcs_of side (role_of sys (edge_at sys e).a) (role_of sys (edge_at sys e).b) ≡ (role_of sys k).arcs
 arcs_are sys e k A on = rw on refl
 arcs_are sys e k B on = rw on refl
 
-pub part_is : (sys : SystemParts) (w : WholeParts) (e : ℕ) (side : Side) → part side (label_on sys w e) ≡ local_at w (end_of (edge_at sys e) side)
-part_is sys w e A = refl
-part_is sys w e B = refl
+pub local_of-label_on : (sys : SystemParts) (w : WholeParts) (e : ℕ) (side : Side) → local_of side (label_on sys w e) ≡ local_at w (end_of (edge_at sys e) side)
+local_of-label_on sys w e A = refl
+local_of-label_on sys w e B = refl
 
 -- what is known of the edge after the firing, where its label and value are these
 pub pair_there : (sys : SystemParts) (w : WholeParts) (e s x : ℕ) (label : ℕ × ℕ) → IsStateAt (structure_at sys e).states label x s → label_on sys w e ≡ label → value_at w e ≡ x → HasPair sys w e s
@@ -65,15 +63,15 @@ edge_moves sys w wish e s side lawful proper moves lt pair on =
     let m = structure_at sys e in
     let arc = arc_of sys wish.process wish.arc in
     let commands = commands_of (lists_at sys e) side wish.arc in
-    let same : arcs_of a b side ≡ (role_of sys wish.process).arcs = arcs_are sys e wish.process side on in
+    let same : arcs_of side a b ≡ (role_of sys wish.process).arcs = arcs_are sys e wish.process side on in
     let known = picked_is commands (across sys w side e) (value_at w e) wish.pick (moves.permit e side lt on) in
     let c = picked (permitted sys w side wish.arc e) wish.pick in
-    let in' : wish.arc < length (arcs_of a b side) = rw same moves.fits.arc_in in
+    let in' : wish.arc < length (arcs_of side a b) = rw same moves.fits.arc_in in
     let listed : IsListed m side arc commands = subst (λ (arcs : List LocalArc). IsListed m side (arc_at arcs wish.arc) commands) same (lawful.skeleton.listed side wish.arc in') in
     let command : IsCommand m side arc c = (listed.exact c).0 known.among in
     let here : IsStateAt m.states (label_on sys w e) c.x s = rw known.x_is pair in
-    let from : part side (label_on sys w e) ≡ arc.from = part_is sys w e side ∙ ap (local_at w) on ∙ sym moves.leaves in
-    let other : part (opposite_side side) (label_on sys w e) ≡ c.other = part_across side (label_on sys w e) ∙ part_is sys w e (opposite side) ∙ sym known.other_is in
+    let from : local_of side (label_on sys w e) ≡ arc.from = local_of-label_on sys w e side ∙ ap (local_at w) on ∙ sym moves.leaves in
+    let other : local_of (opposite side) (label_on sys w e) ≡ c.other = local_of-label_on sys w e (opposite side) ∙ sym known.other_is in
     let gone = command_moves a b m side arc c (label_on sys w e) s lawful.over command here from other in
     let known_side : side_on (edge_at sys e) wish.process ≡ Some side = side_known (edge_at sys e) wish.process side lawful.differ on in
     let process_in : wish.process < length w.locals = rw proper.locals moves.fits.process_in in

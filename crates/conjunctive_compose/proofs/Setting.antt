@@ -8,7 +8,8 @@ use Rattle.pair_structure.specs.declared.side.Side.{Side}
 use Rattle.skeleton_extract.specs.declared.command.Command.{Command}
 use Rattle.skeleton_extract.specs.Permission.{picked}
 use Rattle.interconnection.specs.declared.parts.Beside.{Beside}
-use Rattle.interconnection.specs.Graph.{IsBeside, end_of, opposite}
+use Rattle.interconnection.specs.Graph.{IsBeside, end_of}
+use Rattle.pair_structure.specs.Sides.{opposite}
 use Rattle.conjunctive_compose.specs.declared.wish.Wish.{Wish}
 use Rattle.conjunctive_compose.specs.System.{SystemParts, IsOn, IsSystem, edge_at, side_on}
 use Rattle.conjunctive_compose.specs.Whole.{HasSizes, WholeParts, value_at}

@@ -3,8 +3,8 @@ use Rattle.std.proofs.Common.{ℕ, ◌≡◌, ◌≢◌, ◌==◌, Option, Some,
 use Rattle.std.proofs.lemmas.Bool.{eqb-false, ne_eqb, eq-eqb}
 use Rattle.pair_structure.specs.declared.side.Side.{Side}
 use Rattle.pair_structure.specs.declared.side.Side.TheVariants.{A, B}
-use Rattle.interconnection.specs.Graph.{end_of, opposite}
-use Rattle.skeleton_extract.specs.Sides.{opposite as opposite_side, part}
+use Rattle.interconnection.specs.Graph.{end_of}
+use Rattle.pair_structure.specs.Sides.{opposite}
 use Rattle.interconnection.specs.declared.parts.Edge.{Edge}
 use Rattle.conjunctive_compose.specs.System.{side_on}
 
@@ -43,11 +43,6 @@ ends_none edge k B own other = side_none edge k other own
 pub opposite_twice : (side : Side) → opposite (opposite side) ≡ side
 opposite_twice A = refl
 opposite_twice B = refl
-
--- the graph's other side is that of labels
-pub part_across : (side : Side) (label : ℕ × ℕ) → part (opposite_side side) label ≡ part (opposite side) label
-part_across A label = refl
-part_across B label = refl
 
 -- a process is on one side of an edge
 pub one_side : (edge : Edge) (k : ℕ) (s t : Side) → edge.a ≢ edge.b → end_of edge s ≡ k → end_of edge t ≡ k → s ≡ t

@@ -7,7 +7,7 @@ use Rattle.conjunctive_compose.specs.System.{SystemParts, IsSystem, edge_at, edg
 use Rattle.conjunctive_compose.specs.Whole.{HasPair, label_on, local_at, start_local, start_of, value_at}
 use Rattle.conjunctive_compose.specs.Laws.{IsStart}
 use Rattle.conjunctive_compose.proofs.Edges.{edge_lawful, role_lawful}
-use Rattle.conjunctive_compose.proofs.Pairs.{same_pairs}
+use Rattle.skeleton_extract.proofs.Sides.{same_pairs}
 
 pub local_at_start : (sys : SystemParts) (k : ℕ) → k < process_count sys → local_at (start_of sys) k ≡ (role_of sys k).start
 local_at_start sys k lt = get_or-map-range_with_len (start_local sys) 0 (process_count sys) k k 0 lt (omega arith)

@@ -3,11 +3,12 @@ use Rattle.std.specs.Prelude.{ℕ, ◌≡◌, ◌≢◌, ◌<◌, Option, Some, 
 use Rattle.std.specs.List.{range_with_len}
 use Rattle.pair_structure.specs.declared.side.Side.{Side}
 use Rattle.pair_structure.specs.declared.side.LocalArc.{LocalArc}
-use Rattle.pair_structure.specs.RoleFault.{arc_at}
+use Rattle.pair_structure.specs.Parts.{arc_at}
 use Rattle.skeleton_extract.specs.declared.command.Command.{Command}
 use Rattle.skeleton_extract.specs.Commands.{commands_of}
 use Rattle.skeleton_extract.specs.Permission.{permitted_of, picked}
-use Rattle.interconnection.specs.Graph.{end_of, opposite}
+use Rattle.interconnection.specs.Graph.{end_of}
+use Rattle.pair_structure.specs.Sides.{opposite}
 use Rattle.conjunctive_compose.specs.declared.wish.StepAnswer.{StepAnswer}
 use Rattle.conjunctive_compose.specs.declared.wish.StepAnswer.TheVariants.{Moved, Away, Blocked}
 use Rattle.conjunctive_compose.specs.declared.wish.Wish.{Wish}

@@ -1,19 +1,21 @@
 -- The laws of firings and runs.
-use Rattle.std.specs.Prelude.{ℕ, ◌≡◌, ◌≢◌, ◌<◌, ◌∷◌, ◌++◌, Option, Some, None, List, [], length}
+use Rattle.std.specs.Prelude.{ℕ, ◌≡◌, ◌≢◌, ◌<◌, ◌+◌, ◌∷◌, ◌++◌, Option, Some, None, List, [], length}
 use Rattle.pair_structure.specs.declared.side.Side.{Side}
 use Rattle.pair_structure.specs.Structure.{Structure, HasMove}
+use Rattle.conjunctive_compose.specs.declared.wish.StepAnswer.{StepAnswer}
 use Rattle.conjunctive_compose.specs.declared.wish.Wish.{Wish}
 use Rattle.conjunctive_compose.specs.declared.wish.PairMove.{PairMove}
 use Rattle.conjunctive_compose.specs.System.{SystemParts, IsSystem, IsOn, edge_at, edge_count, side_on, structure_at}
-use Rattle.conjunctive_compose.specs.Whole.{WholeParts, start_of, IsProper, HasPair, local_at, value_at}
-use Rattle.conjunctive_compose.specs.Firing.{Moves, across, fired, value_after}
+use Rattle.conjunctive_compose.specs.Whole.{WholeParts, start_of, IsProper, HasPair, local_at, start_state, value_at}
+use Rattle.conjunctive_compose.specs.Firing.{IsAnswer, Moves, across, fired, value_after}
+use Rattle.conjunctive_compose.specs.Reply.{count_of, count_on}
 use Rattle.conjunctive_compose.specs.Run.{IsRun, Reaches, after}
 use Rattle.conjunctive_compose.specs.Projection.{IsProjection, IsPairPath}
 
--- the start is proper, and on each edge it has pair state 0
+-- the start is proper, and each edge is in the pair state where it starts
 pub record IsStart (sys : SystemParts) : Type 0 where
   pub proper : IsProper sys (start_of sys)
-  pub pairs : (e : ℕ) → e < edge_count sys → HasPair sys (start_of sys) e 0
+  pub pairs : (e : ℕ) → e < edge_count sys → HasPair sys (start_of sys) e (start_state sys e)
 
 abbrev pub StartIsProper : Type 0
 StartIsProper = (sys : SystemParts) → IsSystem sys → IsStart sys
@@ -40,17 +42,20 @@ pub record ProjectsToPath (sys : SystemParts) (w : WholeParts) (wishes : List Wi
   pub some : (moves : List PairMove) × IsProjection sys w e wishes moves
   pub path : (moves : List PairMove) → IsProjection sys w e wishes moves → IsPairPath (structure_at sys e) s moves
 
--- on each edge the projection of a run from the start is a path from state 0
+-- on each edge the projection of a run from the start is a path from the state where the edge starts
 abbrev pub ProjectionIsPath : Type 0
-ProjectionIsPath = (sys : SystemParts) (wishes : List Wish) (e : ℕ) → IsSystem sys → IsRun sys (start_of sys) wishes → e < edge_count sys → ProjectsToPath sys (start_of sys) wishes e 0
+ProjectionIsPath = (sys : SystemParts) (wishes : List Wish) (e : ℕ) → IsSystem sys → IsRun sys (start_of sys) wishes → e < edge_count sys → ProjectsToPath sys (start_of sys) wishes e (start_state sys e)
 
 abbrev pub ReachableIsProper : Type 0
 ReachableIsProper = (sys : SystemParts) (w : WholeParts) → IsSystem sys → Reaches sys w → IsProper sys w
 
--- what a firing leaves as it was: the local states of other processes, and the values of edges that are not its process's
+-- what a firing leaves as it was: the local states of other processes, the values of edges that are not its process's, and how many
+-- firings of such a process or on such an edge a run has when the wish is appended
 pub record OthersStayAt (sys : SystemParts) (w : WholeParts) (wish : Wish) : Type 0 where
   pub locals : (k : ℕ) → k ≢ wish.process → local_at (fired sys w wish) k ≡ local_at w k
   pub values : (e : ℕ) → e < length w.shared → side_on (edge_at sys e) wish.process ≡ None → value_at (fired sys w wish) e ≡ value_at w e
+  pub counts : (run : List Wish) (k : ℕ) → k ≢ wish.process → count_of (run ++ wish ∷ []) k (length run + 1) ≡ count_of run k (length run)
+  pub counts_on : (run : List Wish) (e : ℕ) → side_on (edge_at sys e) wish.process ≡ None → count_on sys (run ++ wish ∷ []) e (length run + 1) ≡ count_on sys run e (length run)
 
 abbrev pub OthersStay : Type 0
 OthersStay = (sys : SystemParts) (w : WholeParts) (wish : Wish) → OthersStayAt sys w wish
@@ -68,6 +73,10 @@ pub record FiresAlike (sys : SystemParts) (v w : WholeParts) (wish : Wish) : Typ
 
 abbrev pub NearDecides : Type 0
 NearDecides = (sys : SystemParts) (v w : WholeParts) (wish : Wish) → AgreeNear sys wish.process v w → FiresAlike sys v w wish
+
+-- what is near a process decides what its wish is answered, the neighbour that blocks it too
+abbrev pub NearDecidesAnswers : Type 0
+NearDecidesAnswers = (sys : SystemParts) (v w v' : WholeParts) (wish : Wish) (answer : StepAnswer) → AgreeNear sys wish.process v w → IsAnswer sys v wish answer v' → (w' : WholeParts) × IsAnswer sys w wish answer w'
 
 abbrev pub RunGrows : Type 0
 RunGrows = (sys : SystemParts) (w : WholeParts) (run : List Wish) (wish : Wish) → IsRun sys w run → Moves sys (after sys w run) wish → IsRun sys w (run ++ wish ∷ [])

@@ -1,5 +1,6 @@
 pub mod Firing
 pub mod Laws
+pub mod Looks
 pub mod Order
 pub mod Projection
 pub mod Reply

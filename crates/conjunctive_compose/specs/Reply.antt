@@ -1,9 +1,9 @@
 -- What callers are told of a run, and when it holds there.
-use Rattle.std.specs.Prelude.{ℕ, ◌≡◌, ◌≤◌, ◌==◌, List, length, take, count_by, is_some, Some, slice_get}
+use Rattle.std.specs.Prelude.{ℕ, ◌≡◌, ◌<◌, ◌≤◌, ◌==◌, List, length, take, count_by, is_some, Some, slice_get, ◌++◌}
 use Rattle.conjunctive_compose.specs.declared.wish.Wish.{Wish}
 use Rattle.conjunctive_compose.specs.declared.wish.StepAnswer.{StepAnswer}
 use Rattle.conjunctive_compose.specs.declared.wish.StepAnswer.TheVariants.{Away, Blocked}
-use Rattle.conjunctive_compose.specs.System.{SystemParts, edge_at, side_on}
+use Rattle.conjunctive_compose.specs.System.{SystemParts, edge_at, edge_count, process_count, side_on}
 use Rattle.conjunctive_compose.specs.Whole.{WholeParts, HasPair, start_of, local_at}
 use Rattle.conjunctive_compose.specs.Firing.{IsAnswer, WishFits}
 use Rattle.conjunctive_compose.specs.Run.{after}
@@ -35,10 +35,28 @@ pub record IsRefusedAt (sys : SystemParts) (run : List Wish) (wish : Wish) (answ
   pub fits : WishFits sys wish
   pub answered : IsAnswer sys (after_first sys run p) wish answer (after_first sys run p)
 
+-- process k exists, and at place p it has fired m times and is in this local state
+pub record IsSeenAt (sys : SystemParts) (run : List Wish) (k m local p : ℕ) : Type 0 where
+  pub process_in : k < process_count sys
+  pub within : p ≤ length run
+  pub count : count_of run k p ≡ m
+  pub shows : local_at (after_first sys run p) k ≡ local
+
+-- edge e exists, and at place p its processes have fired m times and it is in this pair state
+pub record IsSeenPairAt (sys : SystemParts) (run : List Wish) (e m s p : ℕ) : Type 0 where
+  pub edge_in : e < edge_count sys
+  pub within : p ≤ length run
+  pub count : count_on sys run e p ≡ m
+  pub shows : HasPair sys (after_first sys run p) e s
+
 -- what was told holds in the run
 abbrev pub ReplyHolds : SystemParts → List Wish → Told → Type 0
 ReplyHolds sys run (fired_at wish n) = slice_get run n ≡ Some wish
 ReplyHolds sys run (away_at wish local p) = IsRefusedAt sys run wish (Away local) p
 ReplyHolds sys run (blocked_at wish j p) = IsRefusedAt sys run wish (Blocked j) p
-ReplyHolds sys run (seen k m local) = (p : ℕ) × (p ≤ length run) × (count_of run k p ≡ m) × (local_at (after_first sys run p) k ≡ local)
-ReplyHolds sys run (seen_pair e m s) = (p : ℕ) × (p ≤ length run) × (count_on sys run e p ≡ m) × HasPair sys (after_first sys run p) e s
+ReplyHolds sys run (seen k m local) = (p : ℕ) × IsSeenAt sys run k m local p
+ReplyHolds sys run (seen_pair e m s) = (p : ℕ) × IsSeenPairAt sys run e m s p
+
+-- what holds in a run holds in each longer one
+abbrev pub HoldsLonger : Type 0
+HoldsLonger = (sys : SystemParts) (run more : List Wish) (told : Told) → ReplyHolds sys run told → ReplyHolds sys (run ++ more) told

@@ -2,6 +2,7 @@
 use Rattle.std.specs.Prelude.{ℕ, ◌≡◌, ◌<◌, ◌==◌, ◌^◌, cond, Option, Some, None, List, [], length, slice_index_or}
 use Rattle.pair_structure.specs.declared.side.Side.{Side}
 use Rattle.pair_structure.specs.declared.side.Side.TheVariants.{A, B}
+use Rattle.pair_structure.specs.Parts.{role_at}
 use Rattle.pair_structure.specs.Role.{RoleParts, IsRole}
 use Rattle.pair_structure.specs.Structure.{Structure, IsOver}
 use Rattle.skeleton_extract.specs.Commands.{Lists, IsSkeleton}
@@ -21,21 +22,15 @@ process_count sys = length sys.network.processes
 abbrev pub edge_count : SystemParts → ℕ
 edge_count sys = length sys.network.edges
 
-abbrev pub no_role : RoleParts
-no_role = record { name = []; locals = []; start = 0; arcs = [] }
-
 abbrev pub no_structure : Structure
 no_structure = record { states = []; moves = [] }
 
 abbrev pub no_lists : Lists
 no_lists = record { a = []; b = [] }
 
-abbrev pub role_numbered : List RoleParts → ℕ → RoleParts
-role_numbered roles r = slice_index_or roles r no_role
-
 -- the role of a process
 abbrev pub role_of : SystemParts → ℕ → RoleParts
-role_of sys k = role_numbered sys.network.roles (role_number sys.network.processes k)
+role_of sys k = role_at sys.network.roles (role_number sys.network.processes k)
 
 abbrev pub edge_at : SystemParts → ℕ → Edge
 edge_at sys e = edge_numbered sys.network.edges e
@@ -65,10 +60,10 @@ Joins sys e k = (side : Side) × IsOn sys k side e
 
 -- the two roles of a kind
 abbrev pub role_a : NetworkParts → ℕ → RoleParts
-role_a net kind = role_numbered net.roles (ends_of net.ends kind).0
+role_a net kind = role_at net.roles (ends_of net.ends kind).0
 
 abbrev pub role_b : NetworkParts → ℕ → RoleParts
-role_b net kind = role_numbered net.roles (ends_of net.ends kind).1
+role_b net kind = role_at net.roles (ends_of net.ends kind).1
 
 -- a structure for each kind, over its roles, with states that 32 bits number
 pub record HasStructures (net : NetworkParts) (structures : List Structure) : Type 0 where
@@ -86,6 +81,6 @@ HasCommands net = HasCommandsBelow (length net.ends) net
 
 pub record IsSystem (sys : SystemParts) : Type 0 where
   pub network : IsNetwork sys.network
-  pub roles : (r : ℕ) → r < length sys.network.roles → IsRole (role_numbered sys.network.roles r)
+  pub roles : (r : ℕ) → r < length sys.network.roles → IsRole (role_at sys.network.roles r)
   pub structures : HasStructures sys.network sys.structures
   pub commands : HasCommands sys.network sys.structures sys.lists

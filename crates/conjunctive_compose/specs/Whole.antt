@@ -23,6 +23,10 @@ label_on sys w e = (local_at w (edge_at sys e).a, local_at w (edge_at sys e).b)
 abbrev pub HasPair : SystemParts → WholeParts → ℕ → ℕ → Type 0
 HasPair sys w e s = IsStateAt (structure_at sys e).states (label_on sys w e) (value_at w e) s
 
+-- the pair state in which an edge starts
+abbrev pub start_state : SystemParts → ℕ → ℕ
+start_state sys e = 0
+
 -- as many local states and values as the system has processes and edges
 pub record HasSizes (sys : SystemParts) (w : WholeParts) : Type 0 where
   pub locals : length w.locals ≡ process_count sys

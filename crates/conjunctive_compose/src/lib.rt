@@ -2,6 +2,7 @@
 #![tactic(auto)]
 
 mod laws;
+mod limits;
 mod making;
 mod step;
 mod system;
@@ -9,9 +10,12 @@ mod whole;
 mod wish;
 
 pub use laws::{
-    firing_keeps_pairs, near_decides, one_pair_state, others_stay, projection_is_path,
-    reachable_is_proper, run_grows, start_is_proper, told_stays,
+    equal_counts_equal_locals, firing_keeps_pairs, holds_longer, holds_within,
+    look_shows_projection, near_decides, near_decides_answers, one_pair_state, order_stays,
+    others_stay, projection_counts, projection_is_path, reachable_is_proper, run_grows,
+    start_is_proper, told_stays,
 };
+pub use limits::MAX_CALLER;
 pub use system::System;
 pub use whole::Whole;
 pub use wish::{PairMove, StepAnswer, Wish};

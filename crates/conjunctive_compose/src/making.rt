@@ -1,7 +1,8 @@
 ghost use Rattle.std.specs.Prelude.{◌≡◌, ◌<◌, length, IfOk};
 ghost use Rattle.pair_structure.specs.Structure.{IsOver};
 ghost use Rattle.skeleton_extract.specs.Commands.{IsSkeleton};
-ghost use Rattle.conjunctive_compose.specs.System.{HasCommands, HasStructures, role_a, role_b, role_numbered};
+ghost use Rattle.conjunctive_compose.specs.System.{HasCommands, HasStructures, role_a, role_b};
+ghost use Rattle.pair_structure.specs.Parts.{role_at};
 
 use interconnection::Network;
 use pair_structure::{Memory, PairStructure, Role};
@@ -36,15 +37,15 @@ fn skeleton_of(
     ensures { IfOk result (IsSkeleton (role_a network.now kind) (role_b network.now kind) structure.now) }
 {
     let ends = network.ends()[kind];
-    let a = role_numbered(network, ends.0);
-    let b = role_numbered(network, ends.1);
+    let a = role_at(network, ends.0);
+    let b = role_at(network, ends.1);
     let skeleton = extract(alloc, structure, a, b)?;
     Ok(skeleton)
 }
 
-fn role_numbered(network: &Network, number: u8) -> &Role
+fn role_at(network: &Network, number: u8) -> &Role
     requires { number < length network.now.roles }
-    ensures { result.now ≡ role_numbered network.now.roles number }
+    ensures { result.now ≡ role_at network.now.roles number }
 {
     &network.roles()[number as usize]
 }

@@ -7,10 +7,12 @@ use Rattle.std.proofs.Math.Seq.{take-length}
 use Rattle.pair_structure.specs.FirstFailing.{IsFirstFailing}
 use Rattle.pair_structure.specs.declared.side.Side.{Side}
 use Rattle.pair_structure.specs.declared.side.Side.TheVariants.{A, B}
+use Rattle.interconnection.specs.declared.limits.TheConstants.{MAX_NEIGHBOURS}
+use Rattle.pair_structure.specs.Sides.{opposite}
 use Rattle.interconnection.specs.declared.parts.Beside.{Beside}
 use Rattle.interconnection.specs.declared.parts.Edge.{Edge}
 use Rattle.interconnection.specs.Around.{Around, IsGrown, IsBesideBelow, IsNeighbourBelow, IsAround, alone, around_at, AreAlone, AreAroundBelow, AreAround}
-use Rattle.interconnection.specs.Graph.{edge_at, end_of, opposite, joins, degree_of, AreNeighbours, IsLockPlan}
+use Rattle.interconnection.specs.Graph.{edge_at, end_of, joins, degree_of, AreNeighbours, IsLockPlan}
 use Rattle.interconnection.specs.NetworkFault.{HasEarlier}
 
 abbrev no_edge : Edge
@@ -227,7 +229,7 @@ degree_from_around count edges arounds k around within = (around.each k within).
 
 -- the first process with too many beside it is the first whose degree is too high
 pub degrees_from_lengths : (count : ℕ) (edges : List Edge) (arounds : List Around) (found : Option ℕ) → AreAround count edges arounds
-    → IsFirstFailing (λ k. length (around_at arounds k).beside ≤ 32) (length arounds) found → IsFirstFailing (λ k. degree_of edges k ≤ 32) count found
+    → IsFirstFailing (λ k. length (around_at arounds k).beside ≤ MAX_NEIGHBOURS) (length arounds) found → IsFirstFailing (λ k. degree_of edges k ≤ MAX_NEIGHBOURS) count found
 degrees_from_lengths count edges arounds None around none = λ k lt. omega (arith, degree_from_around count edges arounds k around lt, none k (omega (arith, around.size)))
 degrees_from_lengths count edges arounds (Some k) around (within, over, before) =
     let lt : k < count = omega (arith, around.size) in (

@@ -7,6 +7,7 @@ use Rattle.pair_structure.specs.Role.{RoleParts}
 use Rattle.pair_structure.proofs.FirstLaws.{IsFirst-from_order}
 use Rattle.interconnection.specs.declared.fault.NetworkFault.{NetworkFault}
 use Rattle.interconnection.specs.declared.fault.NetworkFault.TheVariants.{TooMany, EndRange, ProcessRole, EdgeRange, SelfEdge, EdgeTwice, RoleMismatch, DegreeOver, Memory}
+use Rattle.interconnection.specs.declared.limits.TheConstants.{MAX_NEIGHBOURS}
 use Rattle.interconnection.specs.declared.parts.Edge.{Edge}
 use Rattle.interconnection.specs.declared.parts.Process.{Process}
 use Rattle.interconnection.specs.Graph.{JoinSame, degree_of, edge_at}
@@ -16,8 +17,8 @@ use Rattle.interconnection.specs.NetworkFault.{IsFirstNetworkFault, IsPassed, St
 
 none_passed : (roles kinds processes limit : ℕ) → AreFew roles kinds processes → IsPassed roles kinds processes limit → ⊥
 none_passed roles kinds processes limit few passed = elim passed [
-  | inl (_, more) ↦ elim more [ inl over ↦ omega (arith, few.roles, over) | inr over ↦ omega (arith, few.kinds, over) ]
-  | inr (_, over) ↦ omega (arith, few.processes, over)
+  | inl (_, over) ↦ omega (arith, few.roles, over)
+  | inr more ↦ elim more [ inl (_, over) ↦ omega (arith, few.kinds, over) | inr (_, over) ↦ omega (arith, few.processes, over) ]
 ]
 
 abbrev past_end : Edge
@@ -120,11 +121,11 @@ module _ (roles : List RoleParts) (ends : List (ℕ × ℕ)) (processes : List P
       lower (RoleMismatch earlier) same lt stands = stands.1 (found.2 earlier lt)
       lower other same lt stands = omega (arith, same)
 
-  pub first_DegreeOver : (k : ℕ) → AreParts roles ends processes → AreEdges ends processes edges → AreSingle edges → ((e : ℕ) → e < length edges → HasRoles ends processes (edge_at edges e)) → IsFirstFailing (λ k. degree_of edges k ≤ 32) (length processes) (Some k) → IsFirstNetworkFault roles ends processes edges (DegreeOver k)
+  pub first_DegreeOver : (k : ℕ) → AreParts roles ends processes → AreEdges ends processes edges → AreSingle edges → ((e : ℕ) → e < length edges → HasRoles ends processes (edge_at edges e)) → IsFirstFailing (λ k. degree_of edges k ≤ MAX_NEIGHBOURS) (length processes) (Some k) → IsFirstNetworkFault roles ends processes edges (DegreeOver k)
   first_DegreeOver k parts are single matching found = IsFirst-from_order kind_of place_of (Stands roles ends processes edges) (DegreeOver k) (found.0, many) (none_below_8 parts are single matching) lower
     where
-      many : 32 < degree_of edges k
-      many = elim (cases_lt 32 (degree_of edges k)) [ inl over ↦ over | inr within ↦ absurd (found.1 within) ]
+      many : MAX_NEIGHBOURS < degree_of edges k
+      many = elim (cases_lt MAX_NEIGHBOURS (degree_of edges k)) [ inl over ↦ over | inr within ↦ absurd (found.1 within) ]
 
       lower : (other : NetworkFault) → kind_of other ≡ 8 → place_of other < k → Stands roles ends processes edges other → ⊥
       lower (DegreeOver earlier) same lt stands = omega (arith, stands.1, found.2 earlier lt)

@@ -1,4 +1,5 @@
 pub mod Besides
+pub mod EdgeCount
 pub mod FaultLaws
 pub mod Growing
 pub mod OneFurther

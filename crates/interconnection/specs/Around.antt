@@ -1,9 +1,10 @@
 -- How a network finds neighbours: for each process the list of them, and its plan, as the edges are read one after another.
 use Rattle.std.specs.Prelude.{ℕ, ◌≡◌, ◌<◌, ◌+◌, ◌⊎◌, ◌↔◌, ◌∷◌, List, [], length, AllPairs, Contains, count_by, slice_index_or, take}
 use Rattle.pair_structure.specs.declared.side.Side.{Side}
+use Rattle.pair_structure.specs.Sides.{opposite}
 use Rattle.interconnection.specs.declared.parts.Beside.{Beside}
 use Rattle.interconnection.specs.declared.parts.Edge.{Edge}
-use Rattle.interconnection.specs.Graph.{edge_at, end_of, opposite, joins}
+use Rattle.interconnection.specs.Graph.{edge_at, end_of, joins}
 
 -- the neighbours of a process, and its plan
 pub record Around : Type 0 where

@@ -2,6 +2,7 @@
 use Rattle.std.specs.Prelude.{ℕ, ◌≡◌, ◌<◌, ◌==◌, ◌||◌, ◌⊎◌, ◌↔◌, Bool, List, length, AllPairs, Contains, count_by, slice_index_or}
 use Rattle.pair_structure.specs.declared.side.Side.{Side}
 use Rattle.pair_structure.specs.declared.side.Side.TheVariants.{A, B}
+pub use Rattle.pair_structure.specs.Sides.{opposite}
 use Rattle.interconnection.specs.declared.parts.Beside.{Beside}
 use Rattle.interconnection.specs.declared.parts.Edge.{Edge}
 
@@ -13,10 +14,6 @@ edge_at edges e = slice_index_or edges e (record { a = 0; b = 0; kind = 0 })
 abbrev pub end_of : Edge → Side → ℕ
 end_of edge A = edge.a
 end_of edge B = edge.b
-
-abbrev pub opposite : Side → Side
-opposite A = B
-opposite B = A
 
 -- edge number b.edge joins k, which is on side b.side of it, with b.process
 pub record IsBeside (edges : List Edge) (k : ℕ) (b : Beside) : Type 0 where

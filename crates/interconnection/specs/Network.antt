@@ -1,6 +1,7 @@
 -- Networks: roles, kinds of pairs, processes and edges, and what makes them one.
 use Rattle.std.specs.Prelude.{ℕ, ◌≡◌, ◌≢◌, ◌<◌, ◌≤◌, List, [], length, All, AllPairs, slice_index_or}
 use Rattle.pair_structure.specs.Role.{RoleParts}
+use Rattle.interconnection.specs.declared.limits.TheConstants.{MAX_KINDS, MAX_NEIGHBOURS, MAX_PROCESSES, MAX_ROLES}
 use Rattle.interconnection.specs.declared.parts.Edge.{Edge}
 use Rattle.interconnection.specs.declared.parts.Process.{Process}
 use Rattle.interconnection.specs.Graph.{JoinSame, degree_of}
@@ -40,16 +41,16 @@ HasRoles ends processes edge = (role_of processes edge.a ≡ (ends_of ends edge.
 
 -- what makes roles, kinds, processes and edges a network
 pub record AreLawful (roles : List RoleParts) (ends : List (ℕ × ℕ)) (processes : List Process) (edges : List Edge) : Type 0 where
-  pub few_roles : length roles ≤ 16
-  pub few_kinds : length ends ≤ 16
-  pub few_processes : length processes ≤ 1024
+  pub few_roles : length roles ≤ MAX_ROLES
+  pub few_kinds : length ends ≤ MAX_KINDS
+  pub few_processes : length processes ≤ MAX_PROCESSES
   pub kinds : All (AreRoles roles) ends
   pub own_roles : All (HasRole roles) processes
   pub in_range : All (IsInRange ends processes) edges
   pub joins_two : All JoinsTwo edges
   pub single : AllPairs (λ x y. JoinSame x y → ⊥) edges
   pub matching : All (HasRoles ends processes) edges
-  pub degrees : (k : ℕ) → k < length processes → degree_of edges k ≤ 32
+  pub degrees : (k : ℕ) → k < length processes → degree_of edges k ≤ MAX_NEIGHBOURS
 
 abbrev pub IsNetwork : NetworkParts → Type 0
 IsNetwork net = AreLawful net.roles net.ends net.processes net.edges

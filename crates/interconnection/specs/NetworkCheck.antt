@@ -3,6 +3,7 @@ use Rattle.std.specs.Prelude.{ℕ, ◌<◌, ◌≤◌, List, length}
 use Rattle.pair_structure.specs.Role.{RoleParts}
 use Rattle.interconnection.specs.declared.fault.NetworkFault.{NetworkFault}
 use Rattle.interconnection.specs.declared.fault.NetworkFault.TheVariants.{EdgeTwice, Memory}
+use Rattle.interconnection.specs.declared.limits.TheConstants.{MAX_KINDS, MAX_NEIGHBOURS, MAX_PROCESSES, MAX_ROLES}
 use Rattle.interconnection.specs.declared.parts.Edge.{Edge}
 use Rattle.interconnection.specs.declared.parts.Process.{Process}
 use Rattle.interconnection.specs.Graph.{degree_of, edge_at}
@@ -11,9 +12,9 @@ use Rattle.interconnection.specs.NetworkFault.{HasEarlier, IsPassed}
 
 -- so many roles, kinds and processes are within their limits
 pub record AreFew (role_count kind_count process_count : ℕ) : Type 0 where
-  pub roles : role_count ≤ 16
-  pub kinds : kind_count ≤ 16
-  pub processes : process_count ≤ 1024
+  pub roles : role_count ≤ MAX_ROLES
+  pub kinds : kind_count ≤ MAX_KINDS
+  pub processes : process_count ≤ MAX_PROCESSES
 
 -- this is the lowest limit that is passed
 pub record IsFirstPassed (roles kinds processes limit : ℕ) : Type 0 where
@@ -44,7 +45,7 @@ pub record IsFirstTwice (edges : List Edge) (e : ℕ) : Type 0 where
 -- what is checked last: the roles of each edge's processes, and how many neighbours each process has
 pub record AreFitting (ends : List (ℕ × ℕ)) (processes : List Process) (edges : List Edge) : Type 0 where
   pub matching : (e : ℕ) → e < length edges → HasRoles ends processes (edge_at edges e)
-  pub degrees : (k : ℕ) → k < length processes → degree_of edges k ≤ 32
+  pub degrees : (k : ℕ) → k < length processes → degree_of edges k ≤ MAX_NEIGHBOURS
 
 -- why no lists of neighbours came of the edges: one is the first that joins the processes of an earlier one, or memory ran out
 abbrev pub IsFailedAdjacency : List Edge → NetworkFault → Type 0

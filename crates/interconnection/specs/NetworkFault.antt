@@ -4,6 +4,7 @@ use Rattle.pair_structure.specs.First.{IsFirst}
 use Rattle.pair_structure.specs.Role.{RoleParts}
 use Rattle.interconnection.specs.declared.fault.NetworkFault.{NetworkFault}
 use Rattle.interconnection.specs.declared.fault.NetworkFault.TheVariants.{TooMany, EndRange, ProcessRole, EdgeRange, SelfEdge, EdgeTwice, RoleMismatch, DegreeOver, Memory}
+use Rattle.interconnection.specs.declared.limits.TheConstants.{MAX_KINDS, MAX_NEIGHBOURS, MAX_PROCESSES, MAX_ROLES}
 use Rattle.interconnection.specs.declared.parts.Edge.{Edge}
 use Rattle.interconnection.specs.declared.parts.Process.{Process}
 use Rattle.interconnection.specs.Graph.{JoinSame, degree_of, edge_at}
@@ -11,7 +12,7 @@ use Rattle.interconnection.specs.Network.{AreRoles, HasRoles, IsInRange, ends_of
 
 -- some part has more than its limit, and this is the limit
 abbrev pub IsPassed : ℕ → ℕ → ℕ → ℕ → Type 0
-IsPassed roles kinds processes limit = ((limit ≡ 16) × ((16 < roles) ⊎ (16 < kinds))) ⊎ ((limit ≡ 1024) × (1024 < processes))
+IsPassed roles kinds processes limit = ((limit ≡ MAX_ROLES) × (MAX_ROLES < roles)) ⊎ ((limit ≡ MAX_KINDS) × (MAX_KINDS < kinds)) ⊎ ((limit ≡ MAX_PROCESSES) × (MAX_PROCESSES < processes))
 
 -- an edge before this one joins the same two processes
 abbrev pub HasEarlier : List Edge → ℕ → Type 0
@@ -26,7 +27,7 @@ Stands roles ends processes edges (EdgeRange edge) = (edge < length edges) × (I
 Stands roles ends processes edges (SelfEdge edge) = (edge < length edges) × ((edge_at edges edge).a ≡ (edge_at edges edge).b)
 Stands roles ends processes edges (EdgeTwice edge) = (edge < length edges) × HasEarlier edges edge
 Stands roles ends processes edges (RoleMismatch edge) = (edge < length edges) × (HasRoles ends processes (edge_at edges edge) → ⊥)
-Stands roles ends processes edges (DegreeOver process) = (process < length processes) × (32 < degree_of edges process)
+Stands roles ends processes edges (DegreeOver process) = (process < length processes) × (MAX_NEIGHBOURS < degree_of edges process)
 Stands roles ends processes edges Memory = ⊥
 
 -- the order of the kinds

@@ -6,12 +6,10 @@ ghost use Rattle.interconnection.specs.Network.{JoinsTwo};
 ghost use Rattle.interconnection.specs.NetworkCheck.{AreSingle, IsFailedAdjacency};
 
 use crate::neighbourhood::{Neighbourhood, has_number};
-use crate::{Beside, Edge, NetworkFault};
+use crate::{Beside, Edge, MAX_NEIGHBOURS, MAX_PROCESSES, NetworkFault};
 use pair_structure::Side;
 use std::alloc::{AllocError, Global};
 use std::marker::Model;
-
-const MAX_NEIGHBOURS: usize = 32;
 
 /// For each process what stands around it.
 #[derive(Debug, Drop)]
@@ -32,7 +30,7 @@ impl Adjacency {
     /// What these edges put around so many processes, or the first edge that joins the processes of an earlier one. A binary search for
     /// each end of an edge.
     pub(crate) fn of(alloc: Global, count: usize, edges: &[Edge]) -> Result<Adjacency, NetworkFault>
-        requires few_processes { count ≤ 1024 }
+        requires few_processes { count ≤ MAX_PROCESSES }
         requires few_edges { length edges.now < 2 ^ 32 }
         requires in_range { (e : ℕ) → e < length edges.now → ((edge_at edges.now e).a < count) × ((edge_at edges.now e).b < count) }
         requires joins_two { (e : ℕ) → e < length edges.now → JoinsTwo (edge_at edges.now e) }
@@ -51,7 +49,7 @@ impl Adjacency {
     }
 
     fn without_edges(alloc: Global, count: usize) -> Result<Adjacency, AllocError>
-        requires { count ≤ 1024 }
+        requires { count ≤ MAX_PROCESSES }
         ensures { IfOk result (AreAlone count) }
     {
         let mut each = Vec::with_capacity(alloc, count)?;
@@ -135,9 +133,9 @@ impl Adjacency {
         Ok(())
     }
 
-    /// The first process with more than 32 neighbours. Linear in processes.
+    /// The first process with more than `MAX_NEIGHBOURS` neighbours. Linear in processes.
     pub(crate) fn first_over(&self) -> Option<usize>
-        ensures { IsFirstFailing (λ k. length (around_at self.now k).beside ≤ 32) (length self.now) result }
+        ensures { IsFirstFailing (λ k. length (around_at self.now k).beside ≤ MAX_NEIGHBOURS) (length self.now) result }
     {
         for (k, around) in self.each.iter().enumerate() {
             if around.beside().len() > MAX_NEIGHBOURS {

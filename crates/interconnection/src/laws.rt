@@ -1,4 +1,4 @@
-ghost use Rattle.interconnection.specs.Laws.{NeighboursAreMutual, StandsOnceInOwnPlan};
+ghost use Rattle.interconnection.specs.Laws.{FewEdges, NeighboursAreMutual, StandsOnceInOwnPlan};
 
 /// A process is a neighbour of another exactly where the other is one of it, by the same edge and on the other side.
 pub fn neighbours_are_mutual()
@@ -8,4 +8,9 @@ pub fn neighbours_are_mutual()
 /// A process stands in its own lock plan, and once.
 pub fn stands_once_in_own_plan()
     ensures { StandsOnceInOwnPlan }
+{}
+
+/// Each edge counts at two processes: a network has at most half its greatest degree of edges a process.
+pub fn few_edges()
+    ensures { FewEdges }
 {}

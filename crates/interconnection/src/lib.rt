@@ -6,12 +6,14 @@ mod copies;
 mod edge_check;
 mod fault;
 mod laws;
+mod limits;
 mod neighbourhood;
 mod network;
 mod part_check;
 mod parts;
 
 pub use fault::NetworkFault;
-pub use laws::{neighbours_are_mutual, stands_once_in_own_plan};
+pub use laws::{few_edges, neighbours_are_mutual, stands_once_in_own_plan};
+pub use limits::{MAX_KINDS, MAX_NEIGHBOURS, MAX_PROCESSES, MAX_ROLES};
 pub use network::Network;
 pub use parts::{Beside, Edge, Process};

@@ -5,14 +5,8 @@ ghost use Rattle.interconnection.specs.Network.{ends_of, role_of};
 ghost use Rattle.interconnection.specs.NetworkCheck.{AreFew, AreParts, IsFirstPassed};
 ghost use Rattle.interconnection.specs.NetworkFault.{IsFirstNetworkFault};
 
-use crate::{NetworkFault, Process};
+use crate::{MAX_KINDS, MAX_PROCESSES, MAX_ROLES, NetworkFault, Process};
 use pair_structure::Role;
-
-const MAX_ROLES: usize = 16;
-
-const MAX_KINDS: usize = 16;
-
-const MAX_PROCESSES: usize = 1024;
 
 /// The first fault of roles, kinds and processes. Linear in their numbers; takes no memory.
 pub(crate) fn part_fault(

@@ -5,7 +5,7 @@ use Rattle.std.proofs.lemmas.List.{get_or_append_left, get_or_push}
 use Rattle.std.proofs.lemmas.List.Sums.{count_by_more_yes, count_by_more_no, sum_by-take-le}
 use Rattle.std.proofs.Math.Seq.{take-length}
 use Rattle.std.proofs.lemmas.Bool.Decides.{nat_tests}
-use Rattle.pair_structure.specs.LabelIndex.{IsListed, IsIndexBelow, list_at}
+use Rattle.pair_structure.specs.LabelIndex.{IsListed, IsIndexBelow, label_list}
 use Rattle.pair_structure.specs.Ordinal.{is_same_label, ordinal_of, IsStateAt}
 use Rattle.pair_structure.specs.Structure.{label_at}
 
@@ -43,9 +43,9 @@ listed_elsewhere states n p q list lt differ listed = record {
 
 -- one more state, in the list of its label
 pub IsIndexBelow-more : (states : List (ℕ × ℕ)) (n : ℕ) (ordinals : List ℕ) (rows grown : List (List (List ℕ))) → n < length states → IsIndexBelow n states ordinals rows
-    → list_at grown (label_at states n).0 (label_at states n).1 ≡ list_at rows (label_at states n).0 (label_at states n).1 ++ n ∷ []
-    → ((p q : ℕ) → (((label_at states n).0 ≡ p) × ((label_at states n).1 ≡ q) → ⊥) → list_at grown p q ≡ list_at rows p q)
-    → IsIndexBelow (n + 1) states (ordinals ++ length (list_at rows (label_at states n).0 (label_at states n).1) ∷ []) grown
+    → label_list grown (label_at states n).0 (label_at states n).1 ≡ label_list rows (label_at states n).0 (label_at states n).1 ++ n ∷ []
+    → ((p q : ℕ) → (((label_at states n).0 ≡ p) × ((label_at states n).1 ≡ q) → ⊥) → label_list grown p q ≡ label_list rows p q)
+    → IsIndexBelow (n + 1) states (ordinals ++ length (label_list rows (label_at states n).0 (label_at states n).1) ∷ []) grown
 IsIndexBelow-more states n ordinals rows grown lt index here elsewhere = record {
   long = omega (arith, length-append {A = ℕ}, index.long);
   ordinal = below_more _ n
@@ -55,16 +55,16 @@ IsIndexBelow-more states n ordinals rows grown lt index here elsewhere = record 
     | inr differ ↦ apart p q (λ same. differ same.0)
     | inl same ↦ elim (cases_eq (label_at states n).1 q) [
       | inr differ ↦ apart p q (λ same. differ same.1)
-      | inl same' ↦ subst (λ q. IsListed states (n + 1) (p, q) (list_at grown p q)) same' (subst (λ p. IsListed states (n + 1) (p, (label_at states n).1) (list_at grown p (label_at states n).1)) same own)
+      | inl same' ↦ subst (λ q. IsListed states (n + 1) (p, q) (label_list grown p q)) same' (subst (λ p. IsListed states (n + 1) (p, (label_at states n).1) (label_list grown p (label_at states n).1)) same own)
     ]
   ];
 }
   where
-    own : IsListed states (n + 1) (label_at states n) (list_at grown (label_at states n).0 (label_at states n).1)
+    own : IsListed states (n + 1) (label_at states n) (label_list grown (label_at states n).0 (label_at states n).1)
     own = rw here (listed_here states n _ lt (index.lists (label_at states n).0 (label_at states n).1))
 
-    apart : (p q : ℕ) → (((label_at states n).0 ≡ p) × ((label_at states n).1 ≡ q) → ⊥) → IsListed states (n + 1) (p, q) (list_at grown p q)
-    apart p q differ = rw (elsewhere p q differ) (listed_elsewhere states n p q (list_at rows p q) lt differ (index.lists p q))
+    apart : (p q : ℕ) → (((label_at states n).0 ≡ p) × ((label_at states n).1 ≡ q) → ⊥) → IsListed states (n + 1) (p, q) (label_list grown p q)
+    apart p q differ = rw (elsewhere p q differ) (listed_elsewhere states n p q (label_list rows p q) lt differ (index.lists p q))
 
 -- past the end of the list of a label there is no ordinal
 pub none_past : (states : List (ℕ × ℕ)) (label : ℕ × ℕ) (list : List ℕ) (x s : ℕ) → IsListed states (length states) label list → length list ≤ x → IsStateAt states label x s → ⊥

@@ -3,10 +3,13 @@ pub mod First
 pub mod FirstFailing
 pub mod LabelIndex
 pub mod Least
+pub mod Lists
 pub mod Name
 pub mod Ordinal
+pub mod Parts
 pub mod Role
 pub mod RoleFault
+pub mod Sides
 pub mod Structure
 pub mod StructureCheck
 pub mod StructureFault

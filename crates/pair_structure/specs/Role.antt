@@ -1,5 +1,6 @@
 -- Roles: what a process of a pair is, alone.
 use Rattle.std.specs.Prelude.{ℕ, ◌≡◌, ◌≢◌, ◌<◌, ◌≤◌, List, length, All, AllPairs, Any}
+use Rattle.pair_structure.specs.declared.limits.TheConstants.{MAX_ARCS, MAX_LOCALS}
 use Rattle.pair_structure.specs.declared.side.LocalArc.{LocalArc}
 
 -- a role as a value: the names of its local states, the number of the one where it starts, and its arcs
@@ -26,10 +27,10 @@ pub record JoinsTwo (count : ℕ) (arc : LocalArc) : Type 0 where
 -- what makes local states, a start and arcs a role
 pub record AreLawful (locals : List (List ℕ)) (start : ℕ) (arcs : List LocalArc) : Type 0 where
   pub some : 0 < length locals
-  pub few_locals : length locals ≤ 32
+  pub few_locals : length locals ≤ MAX_LOCALS
   pub names_differ : AllPairs (λ x y. x ≢ y) locals
   pub starts : start < length locals
-  pub few_arcs : length arcs ≤ 128
+  pub few_arcs : length arcs ≤ MAX_ARCS
   pub joins : All (JoinsTwo (length locals)) arcs
   pub ends_differ : AllPairs (λ (x y : LocalArc). x.from ≡ y.from → x.to ≡ y.to → ⊥) arcs
   pub leaves : (p : ℕ) → p < length locals → HasArcFrom arcs p

@@ -1,14 +1,12 @@
 -- Why some parts are no role, and which of the faults is the first.
-use Rattle.std.specs.Prelude.{ℕ, ◌≡◌, ◌<◌, ◌≤◌, ◌⊎◌, List, [], length, Any, false, take, slice_index_or}
+use Rattle.std.specs.Prelude.{ℕ, ◌≡◌, ◌<◌, ◌≤◌, ◌⊎◌, List, [], length, Any, take, slice_index_or}
 use Rattle.pair_structure.specs.declared.side.LocalArc.{LocalArc}
 use Rattle.pair_structure.specs.declared.role_fault.RoleFault.{RoleFault}
 use Rattle.pair_structure.specs.declared.role_fault.RoleFault.TheVariants.{NoLocal, TooManyLocals, LocalTwice, StartRange, TooManyArcs, ArcRange, SelfArc, ArcTwice, NoArc}
 use Rattle.pair_structure.specs.First.{IsFirst}
+use Rattle.pair_structure.specs.declared.limits.TheConstants.{MAX_ARCS, MAX_LOCALS}
 use Rattle.pair_structure.specs.Role.{HasArc, HasArcFrom}
-
--- an arc of a list by its number; past the end one that joins nothing
-abbrev pub arc_at : List LocalArc → ℕ → LocalArc
-arc_at arcs n = slice_index_or arcs n (record { from = 0; to = 0; free = false })
+pub use Rattle.pair_structure.specs.Parts.{arc_at}
 
 -- a local state before this one has its name
 abbrev pub HasEarlierName : List (List ℕ) → ℕ → Type 0
@@ -33,10 +31,10 @@ IsNeverLeft arcs local = HasArcFrom arcs local → ⊥
 -- the fault stands against these parts, at this place
 abbrev pub Stands : List (List ℕ) → ℕ → List LocalArc → RoleFault → Type 0
 Stands locals start arcs NoLocal = length locals ≡ 0
-Stands locals start arcs TooManyLocals = 32 < length locals
+Stands locals start arcs TooManyLocals = MAX_LOCALS < length locals
 Stands locals start arcs (LocalTwice local) = (local < length locals) × HasEarlierName locals local
 Stands locals start arcs StartRange = length locals ≤ start
-Stands locals start arcs TooManyArcs = 128 < length arcs
+Stands locals start arcs TooManyArcs = MAX_ARCS < length arcs
 Stands locals start arcs (ArcRange arc) = (arc < length arcs) × EndsOutside (length locals) arcs arc
 Stands locals start arcs (SelfArc arc) = (arc < length arcs) × JoinsItself arcs arc
 Stands locals start arcs (ArcTwice arc) = (arc < length arcs) × HasEarlierEnds arcs arc

@@ -1,16 +1,12 @@
 -- Why states and moves are no structure over two roles, and which of the faults is the first.
-use Rattle.std.specs.Prelude.{ℕ, ◌≡◌, ◌≢◌, ◌<◌, ◌≤◌, ◌+◌, ◌⊎◌, List, length, slice_index_or}
-use Rattle.pair_structure.specs.declared.side.Side.TheVariants.{A}
+use Rattle.std.specs.Prelude.{ℕ, ◌≡◌, ◌≢◌, ◌<◌, ◌≤◌, ◌+◌, ◌⊎◌, List, length}
 use Rattle.pair_structure.specs.declared.side.Move.{Move}
 use Rattle.pair_structure.specs.declared.structure_fault.StructureFault.{StructureFault}
 use Rattle.pair_structure.specs.declared.structure_fault.StructureFault.TheVariants.{Empty, Start, LocalRange, MoveRange, NotAnArc, OtherSideMoved, NotRising, NoMove, Memory}
 use Rattle.pair_structure.specs.First.{IsFirst}
+pub use Rattle.pair_structure.specs.Parts.{move_at}
 use Rattle.pair_structure.specs.Role.{RoleParts}
 use Rattle.pair_structure.specs.Structure.{label_at, IsLabel, TakesArc, OtherStays, IsBefore, Reaches}
-
--- a move of a list by its number; past the end one of no matter
-abbrev pub move_at : List Move → ℕ → Move
-move_at moves n = slice_index_or moves n (record { from = 0; side = A; to = 0 })
 
 -- the labels that a move leaves and reaches
 abbrev pub label_from : List (ℕ × ℕ) → Move → ℕ × ℕ

@@ -1,12 +1,12 @@
 ghost use Rattle.std.specs.Prelude.{◌≡◌, ◌<◌, ℕ, All, false, true, slice_index_or, slice_set, length};
 ghost use Rattle.pair_structure.specs.ArcTable.{is_marked, IsInTable, IsTableOf};
 
-use crate::LocalArc;
+use crate::{LocalArc, MAX_LOCALS};
 
 /// Which local states the arcs of a role join, to be asked many times. It lies on the stack.
 #[derive(Drop)]
 pub(crate) struct ArcTable {
-    rows: [[bool; 32]; 32],
+    rows: [[bool; MAX_LOCALS]; MAX_LOCALS],
 }
 
 impl ArcTable {
@@ -31,10 +31,10 @@ impl ArcTable {
     }
 }
 
-fn no_marks() -> [[bool; 32]; 32]
+fn no_marks() -> [[bool; MAX_LOCALS]; MAX_LOCALS]
     ensures { (p q : ℕ) → is_marked result p q ≡ false }
 {
-    [[false; 32]; 32]
+    [[false; MAX_LOCALS]; MAX_LOCALS]
 }
 
 fn mark_at(row: &[bool], q: usize) -> bool
@@ -46,17 +46,17 @@ fn mark_at(row: &[bool], q: usize) -> bool
     }
 }
 
-fn mark(rows: &mut [[bool; 32]; 32], p: u8, q: u8)
-    requires p_in { p < 32 }
-    requires q_in { q < 32 }
+fn mark(rows: &mut [[bool; MAX_LOCALS]; MAX_LOCALS], p: u8, q: u8)
+    requires p_in { p < MAX_LOCALS }
+    requires q_in { q < MAX_LOCALS }
     ensures here { is_marked rows.new p q ≡ true }
     ensures elsewhere { (x y : ℕ) → ((p ≡ x) × (q ≡ y) → ⊥) → is_marked rows.new x y ≡ is_marked rows.old x y }
 {
     rows[p as usize] = with_mark(rows[p as usize], q);
 }
 
-fn with_mark(mut row: [bool; 32], q: u8) -> [bool; 32]
-    requires { q < 32 }
+fn with_mark(mut row: [bool; MAX_LOCALS], q: u8) -> [bool; MAX_LOCALS]
+    requires { q < MAX_LOCALS }
     ensures here { slice_index_or result q false ≡ true }
     ensures elsewhere { (y : ℕ) → (q ≡ y → ⊥) → slice_index_or result y false ≡ slice_index_or row y false }
 {

@@ -4,6 +4,8 @@
 mod arc_table;
 mod label_index;
 mod label_lists;
+mod limits;
+mod lists;
 mod memory;
 mod move_check;
 mod move_order;
@@ -12,15 +14,19 @@ mod name;
 mod role;
 mod role_fault;
 mod side;
+mod sides;
 mod structure;
 mod structure_check;
 mod structure_fault;
 
+pub use limits::{MAX_ARCS, MAX_LOCALS};
+pub use lists::Lists;
 pub use memory::Memory;
 pub use move_order::arrange;
 pub use name::{Name, NameFault, is_name};
 pub use role::Role;
 pub use role_fault::RoleFault;
 pub use side::{LocalArc, Move, Side};
+pub use sides::{arcs_of, local_of, opposite, role_of, with_local};
 pub use structure::PairStructure;
 pub use structure_fault::StructureFault;

@@ -4,12 +4,8 @@ ghost use Rattle.pair_structure.specs.Least.{IsLeast};
 ghost use Rattle.pair_structure.specs.Role.{AreLawful, HasArc, HasArcFrom};
 ghost use Rattle.pair_structure.specs.RoleFault.{IsFirstRoleFault, NoneBefore, HasEarlierName, EndsOutside, JoinsItself, HasEarlierEnds, IsNeverLeft};
 
-use crate::{LocalArc, Name};
+use crate::{LocalArc, MAX_ARCS, MAX_LOCALS, Name};
 use thiserror::Error;
-
-const MAX_LOCALS: usize = 32;
-
-const MAX_ARCS: usize = 128;
 
 /// Why some parts are no role. The order of the variants is the order of refusals: the first that stands is answered, and of one kind
 /// the lowest number.
@@ -91,7 +87,7 @@ fn has_name(names: &[Name], name: &Name) -> bool
 }
 
 fn fault_of_arcs(locals: &[Name], arcs: &[LocalArc]) -> Option<RoleFault>
-    requires { length locals.now ≤ 32 }
+    requires { length locals.now ≤ MAX_LOCALS }
     ensures { (start : ℕ) → NoneBefore locals.now start arcs.now RoleFault.TooManyArcs →
         MatchOption result (AreLawful locals.now start arcs.now) (IsFirstRoleFault locals.now start arcs.now) }
 {

@@ -3,10 +3,11 @@ use Rattle.std.proofs.Common.{ℕ, ◌≡◌, ◌<◌, ◌≤◌, ◌^◌, List,
 use Rattle.pair_structure.specs.Role.{RoleParts}
 use Rattle.pair_structure.specs.Structure.{IsOver, Structure}
 use Rattle.interconnection.specs.Network.{NetworkParts, ends_of}
-use Rattle.conjunctive_compose.specs.System.{HasStructures, role_numbered, structure_of}
+use Rattle.pair_structure.specs.Parts.{role_at}
+use Rattle.conjunctive_compose.specs.System.{HasStructures, structure_of}
 
 pub over_at : (role : RoleParts) (m : Structure) (roles : List RoleParts) (ends : List (ℕ × ℕ)) (kind : ℕ) → roles ≡ role ∷ [] → ends ≡ (0, 0) ∷ [] → kind ≡ 0 → IsOver role role m
-    → IsOver (role_numbered roles (ends_of ends kind).0) (role_numbered roles (ends_of ends kind).1) (structure_of (m ∷ []) kind)
+    → IsOver (role_at roles (ends_of ends kind).0) (role_at roles (ends_of ends kind).1) (structure_of (m ∷ []) kind)
 over_at role m roles ends kind r e k over = rw (r, e, k) over
 
 pub few_at : (m : Structure) (kind : ℕ) → kind ≡ 0 → length m.states ≤ 1000 → length (structure_of (m ∷ []) kind).states < 2 ^ 32

@@ -1,7 +1,7 @@
 -- The numbers of arcs, put into rows one after another.
 use Rattle.std.proofs.Common.{ℕ, ◌≡◌, ◌<◌, ◌+◌, List, length, AllPairs, below_more, ◌∙◌, sym}
 use Rattle.pair_structure.specs.declared.side.LocalArc.{LocalArc}
-use Rattle.pair_structure.specs.RoleFault.{arc_at}
+use Rattle.pair_structure.specs.Parts.{arc_at}
 use Rattle.skeleton_extract.specs.ArcNumbers.{AreApart, IsNumberingBelow, number_at}
 
 -- one more arc; its ends are not those of an earlier one

@@ -6,7 +6,7 @@ use Rattle.std.proofs.lemmas.List.{take_all, take_more}
 use Rattle.std.proofs.lemmas.Slice.Zip.{get_or-zip, length-zip}
 use Rattle.pair_structure.specs.declared.side.LocalArc.{LocalArc}
 use Rattle.skeleton_extract.specs.declared.command.Command.{Command}
-use Rattle.skeleton_extract.specs.Commands.{list_at}
+use Rattle.pair_structure.specs.Lists.{list_at}
 use Rattle.skeleton_extract.specs.SkeletonText.{Names, arc_line, arc_text, arcs_text, command_line}
 
 -- one more arc with its commands

@@ -10,13 +10,14 @@ use Rattle.pair_structure.specs.declared.side.Side.{Side}
 use Rattle.pair_structure.specs.declared.side.Side.TheVariants.{A, B}
 use Rattle.pair_structure.specs.Ordinal.{is_same_side}
 use Rattle.pair_structure.specs.Role.{RoleParts, HasArc}
-use Rattle.pair_structure.specs.RoleFault.{arc_at}
+use Rattle.pair_structure.specs.Parts.{arc_at}
 use Rattle.pair_structure.specs.Structure.{Structure, IsOver, IsLawfulMove, TakesArc, label_at}
 use Rattle.skeleton_extract.specs.declared.command.Command.{Command}
 use Rattle.skeleton_extract.specs.ArcNumbers.{IsNumbering, number_at}
-use Rattle.skeleton_extract.specs.Commands.{AllRise, AreListed, IsCommand, IsListed, IsRising, IsSkeleton, Lists, arcs_of, commands_of, list_at, lists_of}
+use Rattle.pair_structure.specs.Sides.{arcs_of, local_of}
+use Rattle.pair_structure.specs.Lists.{list_at}
+use Rattle.skeleton_extract.specs.Commands.{AllRise, AreListed, IsCommand, IsListed, IsRising, IsSkeleton, Lists, commands_of, lists_of}
 use Rattle.skeleton_extract.specs.Gathered.{AreArranged, AreFollowed, AreGathered, FollowsArc, command_of, comes_to, given_on, leaves_at, number_of, takes}
-use Rattle.skeleton_extract.specs.Sides.{part}
 use Rattle.skeleton_extract.proofs.Sides.{is_same_side_itself, side_from_is_same}
 
 -- what a move takes, by its side and its two local states
@@ -175,18 +176,18 @@ AreListed-from_arranged m side arcs lists arranged gathered is = record {
 }
 
 -- a lawful move follows an arc of its side
-pub AreFollowed-by_side : (a b : RoleParts) (m : Structure) (side : Side) → IsOver a b m → AreFollowed m side (arcs_of a b side)
+pub AreFollowed-by_side : (a b : RoleParts) (m : Structure) (side : Side) → IsOver a b m → AreFollowed m side (arcs_of side a b)
 AreFollowed-by_side a b m side over k d lt same = follows (get_or m.moves k d) same (over.lawful k d lt)
   where
-    arc : (own : Side) (from to : ℕ × ℕ) → TakesArc a.arcs b.arcs own from to → HasArc (arcs_of a b own) (part own from) (part own to)
+    arc : (own : Side) (from to : ℕ × ℕ) → TakesArc a.arcs b.arcs own from to → HasArc (arcs_of own a b) (local_of own from) (local_of own to)
     arc A from to takes_it = takes_it
     arc B from to takes_it = takes_it
 
-    follows : (move : Move) → move.side ≡ side → IsLawfulMove a b m.states move → FollowsArc m.states (arcs_of a b side) move
+    follows : (move : Move) → move.side ≡ side → IsLawfulMove a b m.states move → FollowsArc m.states (arcs_of side a b) move
     follows move same lawful = record {
       from = lawful.from;
       to = lawful.to;
-      arc = subst (λ side. HasArc (arcs_of a b side) (leaves_at m.states move) (comes_to m.states move)) same (arc move.side (label_at m.states move.from) (label_at m.states move.to) lawful.arc);
+      arc = subst (λ side. HasArc (arcs_of side a b) (leaves_at m.states move) (comes_to m.states move)) same (arc move.side (label_at m.states move.from) (label_at m.states move.to) lawful.arc);
     }
 
 -- both sides together
@@ -196,11 +197,11 @@ IsSkeleton-from_sides a b m of_a of_b is_a is_b = record { has_lists = record { 
     lists : Lists
     lists = record { a = of_a; b = of_b }
 
-    count : (side : Side) → length (lists_of lists side) ≡ length (arcs_of a b side)
+    count : (side : Side) → length (lists_of lists side) ≡ length (arcs_of side a b)
     count A = is_a.count
     count B = is_b.count
 
-    listed : (side : Side) (arc : ℕ) → arc < length (arcs_of a b side) → IsListed m side (arc_at (arcs_of a b side) arc) (commands_of lists side arc)
+    listed : (side : Side) (arc : ℕ) → arc < length (arcs_of side a b) → IsListed m side (arc_at (arcs_of side a b) arc) (commands_of lists side arc)
     listed A arc lt = is_a.each arc lt
     listed B arc lt = is_b.each arc lt
 

@@ -1,7 +1,7 @@
 -- The numbers of arcs, in rows by the local states that they join.
 use Rattle.std.specs.Prelude.{ℕ, ◌≡◌, ◌<◌, List, [], length, slice_index_or}
 use Rattle.pair_structure.specs.declared.side.LocalArc.{LocalArc}
-use Rattle.pair_structure.specs.RoleFault.{arc_at}
+use Rattle.pair_structure.specs.Parts.{arc_at}
 
 -- the number in row p at q
 abbrev pub number_at : List (List ℕ) → ℕ → ℕ → ℕ

@@ -1,21 +1,22 @@
 -- What the moves of a structure command.
-use Rattle.std.specs.Prelude.{ℕ, ◌≡◌, ◌<◌, ◌⊎◌, ◌↔◌, List, [], length, AllPairs, Contains, slice_index_or}
+use Rattle.std.specs.Prelude.{ℕ, ◌≡◌, ◌<◌, ◌⊎◌, ◌↔◌, List, length, AllPairs, Contains}
 use Rattle.pair_structure.specs.declared.side.LocalArc.{LocalArc}
 use Rattle.pair_structure.specs.declared.side.Side.{Side}
 use Rattle.pair_structure.specs.declared.side.Side.TheVariants.{A, B}
 use Rattle.pair_structure.specs.Ordinal.{ordinal_of}
 use Rattle.pair_structure.specs.Role.{RoleParts}
-use Rattle.pair_structure.specs.RoleFault.{arc_at}
+use Rattle.pair_structure.specs.Parts.{arc_at}
 use Rattle.pair_structure.specs.Structure.{Structure, HasMove, label_at}
 use Rattle.skeleton_extract.specs.declared.command.Command.{Command}
-use Rattle.skeleton_extract.specs.Sides.{opposite, part}
+use Rattle.pair_structure.specs.Lists.{list_at}
+use Rattle.pair_structure.specs.Sides.{arcs_of, local_of, opposite}
 
 -- the move of this side from s to t is on this arc, and gives this command
 pub record Gives (m : Structure) (side : Side) (arc : LocalArc) (c : Command) (s t : ℕ) : Type 0 where
   pub move : HasMove m side s t
-  pub from : part side (label_at m.states s) ≡ arc.from
-  pub to : part side (label_at m.states t) ≡ arc.to
-  pub other : part (opposite side) (label_at m.states s) ≡ c.other
+  pub from : local_of side (label_at m.states s) ≡ arc.from
+  pub to : local_of side (label_at m.states t) ≡ arc.to
+  pub other : local_of (opposite side) (label_at m.states s) ≡ c.other
   pub x : ordinal_of m.states s ≡ c.x
   pub set : ordinal_of m.states t ≡ c.set
 
@@ -40,15 +41,8 @@ abbrev pub lists_of : Lists → Side → List (List Command)
 lists_of lists A = lists.a
 lists_of lists B = lists.b
 
-abbrev pub list_at : List (List Command) → ℕ → List Command
-list_at lists arc = slice_index_or lists arc []
-
 abbrev pub commands_of : Lists → Side → ℕ → List Command
 commands_of lists side arc = list_at (lists_of lists side) arc
-
-abbrev pub arcs_of : RoleParts → RoleParts → Side → List LocalArc
-arcs_of a b A = a.arcs
-arcs_of a b B = b.arcs
 
 -- each of the lists rises
 abbrev pub AllRise : List (List Command) → Type 0
@@ -66,9 +60,9 @@ pub record AreListed (m : Structure) (side : Side) (arcs : List LocalArc) (lists
 
 -- a list of commands for each arc of the two roles, and no more
 pub record HasLists (a b : RoleParts) (lists : Lists) : Type 0 where
-  pub count : (side : Side) → length (lists_of lists side) ≡ length (arcs_of a b side)
+  pub count : (side : Side) → length (lists_of lists side) ≡ length (arcs_of side a b)
 
 -- the commands of a structure over the two roles
 pub record IsSkeleton (a b : RoleParts) (m : Structure) (lists : Lists) : Type 0 where
   pub has_lists : HasLists a b lists
-  pub listed : (side : Side) (arc : ℕ) → arc < length (arcs_of a b side) → IsListed m side (arc_at (arcs_of a b side) arc) (commands_of lists side arc)
+  pub listed : (side : Side) (arc : ℕ) → arc < length (arcs_of side a b) → IsListed m side (arc_at (arcs_of side a b) arc) (commands_of lists side arc)

@@ -1,29 +1,30 @@
 -- How commands are gathered: move by move, each put into the list of its arc.
-use Rattle.std.specs.Prelude.{ℕ, ◌≡◌, ◌<◌, ◌↔◌, ◌==◌, ◌&&◌, Bool, List, [], length, All, Contains, filter, map}
+use Rattle.std.specs.Prelude.{ℕ, ◌≡◌, ◌<◌, ◌↔◌, ◌==◌, ◌&&◌, Bool, List, length, All, Contains, filter, map}
 use Rattle.pair_structure.specs.declared.side.LocalArc.{LocalArc}
 use Rattle.pair_structure.specs.declared.side.Move.{Move}
 use Rattle.pair_structure.specs.declared.side.Side.{Side}
 use Rattle.pair_structure.specs.Ordinal.{is_same_side, ordinal_of}
 use Rattle.pair_structure.specs.Role.{HasArc}
-use Rattle.pair_structure.specs.RoleFault.{arc_at}
+use Rattle.pair_structure.specs.Parts.{arc_at}
 use Rattle.pair_structure.specs.Structure.{Structure, label_at}
 use Rattle.skeleton_extract.specs.declared.command.Command.{Command}
 use Rattle.skeleton_extract.specs.ArcNumbers.{number_at}
-use Rattle.skeleton_extract.specs.Commands.{IsRising, list_at}
-use Rattle.skeleton_extract.specs.Sides.{opposite, part}
+use Rattle.pair_structure.specs.Lists.{list_at}
+use Rattle.skeleton_extract.specs.Commands.{IsRising}
+use Rattle.pair_structure.specs.Sides.{opposite, local_of}
 
 -- the local states of its own side that a move leaves and reaches
 abbrev pub leaves_at : List (ℕ × ℕ) → Move → ℕ
-leaves_at states move = part move.side (label_at states move.from)
+leaves_at states move = local_of move.side (label_at states move.from)
 
 abbrev pub comes_to : List (ℕ × ℕ) → Move → ℕ
-comes_to states move = part move.side (label_at states move.to)
+comes_to states move = local_of move.side (label_at states move.to)
 
 abbrev pub number_of : List (ℕ × ℕ) → List (List ℕ) → Move → ℕ
 number_of states rows move = number_at rows (leaves_at states move) (comes_to states move)
 
 abbrev pub command_of : List (ℕ × ℕ) → Move → Command
-command_of states move = record { other = part (opposite move.side) (label_at states move.from); x = ordinal_of states move.from; set = ordinal_of states move.to }
+command_of states move = record { other = local_of (opposite move.side) (label_at states move.from); x = ordinal_of states move.from; set = ordinal_of states move.to }
 
 -- the move is one of this side, on this arc
 abbrev pub takes : List (ℕ × ℕ) → Side → LocalArc → Move → Bool
@@ -37,11 +38,6 @@ given_on states side arc moves = map (command_of states) (filter (takes states s
 pub record AreGathered (states : List (ℕ × ℕ)) (moves : List Move) (side : Side) (arcs : List LocalArc) (lists : List (List Command)) : Type 0 where
   pub count : length lists ≡ length arcs
   pub each : (arc : ℕ) → arc < length arcs → list_at lists arc ≡ given_on states side (arc_at arcs arc) moves
-
--- so many lists, all empty
-pub record AreEmpty (count : ℕ) (lists : List (List Command)) : Type 0 where
-  pub size : length lists ≡ count
-  pub each : (arc : ℕ) → list_at lists arc ≡ []
 
 -- the first n lists are put in order, and none has gained or lost a command
 pub record AreArranged (n : ℕ) (old lists : List (List Command)) : Type 0 where

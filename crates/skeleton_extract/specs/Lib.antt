@@ -4,5 +4,4 @@ pub mod Gathered
 pub mod Laws
 pub mod Permission
 pub mod Place
-pub mod Sides
 pub mod SkeletonText

@@ -1,16 +1,11 @@
 -- The text of the skeletons of a kind.
-use Rattle.std.specs.Prelude.{ℕ, List, [], ◌++◌, codes, decimal, slice_index_or}
+use Rattle.std.specs.Prelude.{ℕ, List, ◌++◌, codes, decimal}
 use Rattle.std.specs.List.{flat_map, zip}
 use Rattle.pair_structure.specs.declared.side.LocalArc.{LocalArc}
+pub use Rattle.pair_structure.specs.Parts.{Names, name_at}
 use Rattle.pair_structure.specs.Role.{RoleParts}
 use Rattle.skeleton_extract.specs.declared.command.Command.{Command}
 use Rattle.skeleton_extract.specs.Commands.{Lists}
-
-abbrev pub Names : Type 0
-Names = List (List ℕ)
-
-abbrev pub name_at : Names → ℕ → List ℕ
-name_at names n = slice_index_or names n []
 
 abbrev pub arc_line : Names → LocalArc → List ℕ
 arc_line own arc = codes "arc " ++ name_at own arc.from ++ codes " " ++ name_at own arc.to ++ codes "\n"

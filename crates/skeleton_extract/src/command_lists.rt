@@ -1,7 +1,8 @@
 ghost use Rattle.std.specs.Prelude.{◌≡◌, ◌<◌, ◌++◌, ◌∷◌, ◌↔◌, [], ℕ, Contains, length, IfOk, OnOk, slice_index_or};
 ghost use Rattle.skeleton_extract.specs.declared.command.Command.{Command};
-ghost use Rattle.skeleton_extract.specs.Commands.{IsRising, list_at};
-ghost use Rattle.skeleton_extract.specs.Gathered.{AreArranged, AreEmpty};
+ghost use Rattle.pair_structure.specs.Lists.{AreEmpty, list_at};
+ghost use Rattle.skeleton_extract.specs.Commands.{IsRising};
+ghost use Rattle.skeleton_extract.specs.Gathered.{AreArranged};
 
 use crate::Command;
 use std::alloc::{AllocError, Global};

@@ -2,12 +2,11 @@ ghost use Rattle.std.specs.Prelude.{◌≡◌, ◌<◌, IfOk, length};
 ghost use Rattle.pair_structure.specs.Structure.{IsOver};
 ghost use Rattle.skeleton_extract.specs.Commands.{AreListed, IsSkeleton};
 ghost use Rattle.skeleton_extract.specs.Gathered.{AreFollowed, AreGathered, command_of, number_of};
-ghost use Rattle.skeleton_extract.specs.Sides.{opposite, part};
 
 use crate::arc_numbers::ArcNumbers;
 use crate::command_lists::CommandLists;
 use crate::{Command, Skeleton};
-use pair_structure::{Memory, Move, PairStructure, Role, Side};
+use pair_structure::{Memory, Move, PairStructure, Role, Side, local_of, opposite};
 use std::alloc::{AllocError, Global};
 
 /// The commands of the moves of a structure over the two roles. Two passes over the moves; moves times their logarithm, to put the
@@ -65,7 +64,7 @@ fn number_of(m: &PairStructure, numbers: &ArcNumbers, step: &Move) -> u8
 {
     let from = m.states()[step.from as usize];
     let to = m.states()[step.to as usize];
-    numbers.number(part(step.side, from), part(step.side, to))
+    numbers.number(local_of(step.side, from), local_of(step.side, to))
 }
 
 /// What the move commands.
@@ -75,26 +74,8 @@ fn command_of(m: &PairStructure, step: &Move) -> Command
     ensures { result ≡ command_of m.now.states step.now }
 {
     Command {
-        other: part(opposite(step.side), m.states()[step.from as usize]),
+        other: local_of(opposite(step.side), m.states()[step.from as usize]),
         x: m.ordinal(step.from),
         set: m.ordinal(step.to),
-    }
-}
-
-fn part(side: Side, label: (u8, u8)) -> u8
-    ensures { result ≡ part side label }
-{
-    match side {
-        Side::A => label.0,
-        Side::B => label.1,
-    }
-}
-
-fn opposite(side: Side) -> Side
-    ensures { result ≡ opposite side }
-{
-    match side {
-        Side::A => Side::B,
-        Side::B => Side::A,
     }
 }

@@ -1,6 +1,6 @@
-use Rattle.std.proofs.Common.{◌≡◌, subst, sym, List, [], ◌++◌, ◌∷◌, ◌∙◌}
+use Rattle.std.proofs.Common.{subst, ◌∙◌}
 use Rattle.std.proofs.lemmas.List.Elements.{All-more}
-use Rattle.pair_structure.specs.Role.{RoleParts, IsRole}
+use Rattle.pair_structure.specs.Role.{IsRole}
 use Rattle.interconnection.proofs.OneFurther.{copies_more}
 use Rattle.interconnection.proofs.copies.role_copies.Goals as goal
 

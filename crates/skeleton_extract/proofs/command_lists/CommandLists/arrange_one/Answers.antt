@@ -1,6 +1,7 @@
 use Rattle.std.proofs.Common.{◌↔◌, Contains, subst, sym}
 use Rattle.pair_structure.proofs.ListOfLists.{same_elsewhere}
-use Rattle.skeleton_extract.specs.Commands.{IsRising, list_at}
+use Rattle.pair_structure.specs.Lists.{list_at}
+use Rattle.skeleton_extract.specs.Commands.{IsRising}
 use Rattle.skeleton_extract.proofs.ListAt.{put_here, read_here}
 use Rattle.skeleton_extract.proofs.command_lists.CommandLists.arrange_one.Goals as goal
 
