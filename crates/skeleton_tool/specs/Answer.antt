@@ -6,7 +6,7 @@ use Rattle.pair_structure.specs.Role.{RoleParts}
 use Rattle.pair_structure.specs.Structure.{Structure}
 use Rattle.ctl_form.specs.declared.pair_spec.PairSpec.{PairSpec}
 use Rattle.ctl_form.specs.Kind.{SatisfiesKind, Solves}
-use Rattle.ctl_text.specs.declared.cause.TextCause.{TextCause}
+use Rattle.text_cause.specs.declared.cause.TextCause.{TextCause}
 use Rattle.ctl_text.specs.Value.{SpecParts, kind_at}
 use Rattle.ctl_text.specs.Text.{IsSpecText, IsRefused}
 use Rattle.solution_text.specs.Text.{IsSolutionText, IsRefused as IsSolutionRefused}

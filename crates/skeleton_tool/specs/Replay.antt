@@ -14,7 +14,7 @@ use Rattle.firing_journal.specs.Journal.{wishes_of}
 use Rattle.firing_journal.specs.Replay.{LeavesWhole, IsFirstStuck, wish_at}
 use Rattle.firing_journal.specs.Text.{IsJournalText, IsRefused}
 use Rattle.ctl_form.specs.Kind.{Solves}
-use Rattle.ctl_text.specs.declared.cause.TextCause.{TextCause}
+use Rattle.text_cause.specs.declared.cause.TextCause.{TextCause}
 use Rattle.ctl_text.specs.Value.{SpecParts, network_of, process_at}
 use Rattle.skeleton_tool.specs.declared.status.Status.{Status}
 use Rattle.skeleton_tool.specs.declared.status.Status.TheVariants.{Done, Usage, Refused, Unsatisfiable, Fails, ReadFault, WriteFault, OutOfMemory}

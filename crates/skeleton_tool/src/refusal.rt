@@ -1,9 +1,9 @@
 ghost use Rattle.std.specs.Prelude.{◌≡◌, ◌++◌, OnOk};
-ghost use Rattle.skeleton_tool.specs.Refusal.{cause_word, refused_text};
+ghost use Rattle.skeleton_tool.specs.Refusal.{refused_text};
 
-use ctl_text::TextCause;
 use itoa::Buffer;
 use std::alloc::AllocError;
+use text_cause::{TextCause, cause_word};
 
 /// Appends the text of a file that is refused: its word, its first bad line and the cause.
 pub(crate) fn write_refused(
@@ -23,29 +23,4 @@ pub(crate) fn write_refused(
     into.extend_from_slice(cause_word(cause).as_bytes())?;
     into.extend_from_slice(b"\n")?;
     Ok(())
-}
-
-/// The name of a cause, without its fields.
-fn cause_word(cause: TextCause) -> &'static str
-    ensures { result.now ≡ cause_word cause }
-{
-    match cause {
-        TextCause::NotText => "NotText",
-        TextCause::BadHead => "BadHead",
-        TextCause::Long => "Long",
-        TextCause::BadLine => "BadLine",
-        TextCause::UnknownName => "UnknownName",
-        TextCause::Twice => "Twice",
-        TextCause::SelfArc => "SelfArc",
-        TextCause::NoArc { .. } => "NoArc",
-        TextCause::TooMany { .. } => "TooMany",
-        TextCause::ClosureOver => "ClosureOver",
-        TextCause::SelfEdge => "SelfEdge",
-        TextCause::EdgeTwice => "EdgeTwice",
-        TextCause::DegreeOver { .. } => "DegreeOver",
-        TextCause::RoleMismatch => "RoleMismatch",
-        TextCause::NotAPair { .. } => "NotAPair",
-        TextCause::NotRising => "NotRising",
-        TextCause::Disagree => "Disagree",
-    }
 }
