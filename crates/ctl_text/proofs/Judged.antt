@@ -1,14 +1,16 @@
 -- What stands against a line, from what stands against what it says.
 use Rattle.std.proofs.Common.{ℕ, ◌≡◌, ◌<◌, ◌≤◌, inl, inr, List, [], ◌∷◌, refl, sym, ap, ◌∙◌, arith, subst, true, false}
-use Rattle.ctl_text.specs.declared.cause.TextCause.{TextCause}
-use Rattle.ctl_text.specs.declared.cause.TextCause.TheVariants.{NotText, BadHead, Long, BadLine, UnknownName, Twice, SelfArc, NoArc, TooMany, ClosureOver, SelfEdge, EdgeTwice, DegreeOver, RoleMismatch, NotAPair, NotRising, Disagree}
+use Rattle.text_cause.specs.declared.cause.TextCause.{TextCause}
+use Rattle.text_cause.specs.declared.cause.TextCause.TheVariants.{NotText, BadHead, Long, BadLine, UnknownName, Twice, SelfArc, NoArc, TooMany, ClosureOver, SelfEdge, EdgeTwice, DegreeOver, RoleMismatch, NotAPair, NotRising, Disagree}
 use Rattle.ctl_text.specs.Lines.{words_of, IsText, ArePassed, IsRequire}
 use Rattle.ctl_text.specs.Item.{Said, head_line, words_for}
 use Rattle.ctl_text.specs.State.{State, Group, before_head, among_roles, in_locals, in_arcs, among_kinds, in_kind, among_processes, among_edges, after_done, MayStand, after}
-use Rattle.ctl_text.specs.Cause.{IsLowest, IsFree, cause_no, Blocks, MaySay, IsLongLine, WordsStand, Stands, Takes}
-use Rattle.ctl_text.specs.declared.cause.LineFault.{LineFault}
-use Rattle.ctl_text.specs.declared.cause.LineFault.TheVariants.{Bad, Memory}
-use Rattle.ctl_text.specs.Judged.{IsTakenAs, IsBadBy, CanSay, misplaced}
+use Rattle.text_cause.specs.Cause.{IsLowest, IsFree, cause_no}
+use Rattle.ctl_text.specs.Cause.{Blocks, MaySay, IsLongLine, WordsStand, Stands, Takes}
+use Rattle.text_cause.specs.declared.line_fault.LineFault.{LineFault}
+use Rattle.text_cause.specs.declared.line_fault.LineFault.TheVariants.{Bad, Memory}
+use Rattle.text_cause.specs.Answers.{IsBadBy}
+use Rattle.ctl_text.specs.Judged.{IsTakenAs, CanSay, misplaced}
 use Rattle.ctl_text.proofs.ItemLaws.{says_once, other_clause}
 
 head_only : (g : Group) (x : Said) → MayStand g x → g ≡ before_head → x ≡ head_line

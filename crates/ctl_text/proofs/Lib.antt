@@ -18,7 +18,6 @@ pub mod LineLaws
 pub mod LinesAgain
 pub mod LinesTaken
 pub mod LongLaws
-pub mod Lowest
 pub mod NameBytes
 pub mod Named
 pub mod Options

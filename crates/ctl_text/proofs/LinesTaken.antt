@@ -5,7 +5,8 @@ use Rattle.ctl_form.specs.declared.pair_spec.PairSpec.{PairSpec}
 use Rattle.ctl_form.specs.Form.{Form}
 use Rattle.ctl_form.specs.Kind.{role_at}
 use Rattle.ctl_text.specs.Canonical.{AreNames}
-use Rattle.ctl_text.specs.Cause.{IsFree, Blocks, Takes}
+use Rattle.text_cause.specs.Cause.{IsFree}
+use Rattle.ctl_text.specs.Cause.{Blocks, Takes}
 use Rattle.ctl_text.specs.FormulaText.{Names, formula_text}
 use Rattle.ctl_text.specs.Item.{Said, require_line, words_for, IsSpelled}
 use Rattle.ctl_text.specs.Judged.{IsSpelledOver}

@@ -1,6 +1,6 @@
 -- A text stands for one value at most, and is never both read and refused.
 use Rattle.std.proofs.Common.{ℕ, ◌≡◌, ◌+◌, ◌⊎◌, inl, inr, List, [], ◌∷◌, sym, ap, ◌∙◌, subst}
-use Rattle.ctl_text.specs.declared.cause.TextCause.{TextCause}
+use Rattle.text_cause.specs.declared.cause.TextCause.{TextCause}
 use Rattle.ctl_text.specs.Lines.{words_of, ArePassed}
 use Rattle.ctl_text.specs.Item.{Said}
 use Rattle.ctl_text.specs.Value.{SpecParts}

@@ -9,9 +9,10 @@ use Rattle.ctl_form.specs.declared.pair_spec.PairSpec.{PairSpec}
 use Rattle.ctl_form.specs.Form.{Form}
 use Rattle.ctl_form.specs.Kind.{role_at}
 use Rattle.interconnection.specs.declared.parts.Process.{Process}
-use Rattle.ctl_text.specs.declared.cause.TextCause.TheVariants.{Long, UnknownName, Twice, ClosureOver}
+use Rattle.text_cause.specs.declared.cause.TextCause.TheVariants.{Long, UnknownName, Twice, ClosureOver}
 use Rattle.ctl_text.specs.Canonical.{AreNames}
-use Rattle.ctl_text.specs.Cause.{IsFree, Blocks, IsClauseSpelled, IsLongLine, ProcessStands, Takes}
+use Rattle.text_cause.specs.Cause.{IsFree}
+use Rattle.ctl_text.specs.Cause.{Blocks, IsClauseSpelled, IsLongLine, ProcessStands, Takes}
 use Rattle.ctl_text.specs.Item.{Said, head_line, role_line, local_line, start_line, arc_line, kind_line, require_line, end_line, process_line, edge_line, done_line, words_for, IsSpelled}
 use Rattle.ctl_text.specs.Lines.{lines_of}
 use Rattle.ctl_text.specs.Long.{IsLong}

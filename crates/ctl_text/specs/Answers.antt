@@ -1,7 +1,7 @@
 -- What reading a text answers.
 use Rattle.std.specs.Prelude.{ℕ, List}
-use Rattle.ctl_text.specs.declared.cause.TextFault.{TextFault}
-use Rattle.ctl_text.specs.declared.cause.TextFault.TheVariants.{At, Memory}
+use Rattle.text_cause.specs.declared.cause.TextFault.{TextFault}
+use Rattle.text_cause.specs.declared.cause.TextFault.TheVariants.{At, Memory}
 use Rattle.ctl_text.specs.Text.{IsRefused}
 
 -- want of memory, or the first bad line and its lowest cause

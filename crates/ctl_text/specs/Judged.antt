@@ -1,28 +1,24 @@
 -- What judging and taking a line gives.
 use Rattle.std.specs.Prelude.{ℕ, ◌≡◌, ◌∷◌, List, ◌⊎◌, codes}
 use Rattle.ctl_form.specs.Form.{Form}
-use Rattle.ctl_text.specs.declared.cause.TextCause.{TextCause}
-use Rattle.ctl_text.specs.declared.cause.TextCause.TheVariants.{BadHead, Long, BadLine, UnknownName}
-use Rattle.ctl_text.specs.declared.cause.LineFault.{LineFault}
-use Rattle.ctl_text.specs.declared.cause.LineFault.TheVariants.{Bad, Memory}
+use Rattle.text_cause.specs.declared.cause.TextCause.{TextCause}
+use Rattle.text_cause.specs.declared.cause.TextCause.TheVariants.{BadHead, Long, BadLine, UnknownName}
+use Rattle.text_cause.specs.declared.line_fault.LineFault.{LineFault}
+use Rattle.text_cause.specs.declared.line_fault.LineFault.TheVariants.{Bad, Memory}
 use Rattle.ctl_text.specs.Long.{IsLong}
 use Rattle.ctl_text.specs.Required.{SpellsOver, AreKnownOver, IsUnspelled}
 use Rattle.ctl_text.specs.Sign.{Names}
 use Rattle.ctl_text.specs.Item.{Said, require_line, Says}
 use Rattle.ctl_text.specs.State.{State, Group, before_head, MayStand}
 use Rattle.ctl_text.specs.Text.{EndOfText}
-use Rattle.ctl_text.specs.Cause.{IsLowest, IsFree, WordsStand, MaySay, Leaves}
+use Rattle.text_cause.specs.Cause.{IsLowest, IsFree}
+use Rattle.ctl_text.specs.Cause.{WordsStand, MaySay, Leaves}
 
 -- nothing stands against the words, and they leave this state
 pub record IsTakenAs (s : State) (words : List (List ℕ)) (t : State) : Type 0 where
   pub free : IsFree (WordsStand s words)
   pub item : Said
   pub leaves : Leaves s words item t
-
--- want of memory, or the lowest cause that stands
-abbrev pub IsBadBy : (TextCause → Type 0) → LineFault → Type 0
-IsBadBy against Memory = Unit {0}
-IsBadBy against (Bad cause) = IsLowest against cause
 
 -- the cause of a line that may not stand there and requires no clause
 abbrev pub misplaced : Group → TextCause

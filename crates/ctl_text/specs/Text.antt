@@ -1,11 +1,12 @@
 -- Which value a text of lines stands for, and where it is refused.
 use Rattle.std.specs.Prelude.{ℕ, ◌≡◌, ◌+◌, ◌⊎◌, List, [], ◌∷◌}
-use Rattle.ctl_text.specs.declared.cause.TextCause.{TextCause}
-use Rattle.ctl_text.specs.declared.cause.TextCause.TheVariants.{BadHead, BadLine}
+use Rattle.text_cause.specs.declared.cause.TextCause.{TextCause}
+use Rattle.text_cause.specs.declared.cause.TextCause.TheVariants.{BadHead, BadLine}
 use Rattle.ctl_text.specs.Lines.{lines_of}
 use Rattle.ctl_text.specs.Value.{SpecParts}
 use Rattle.ctl_text.specs.State.{Group, before_head, after_done, State, first_state}
-use Rattle.ctl_text.specs.Cause.{IsLowest, Stands, Takes}
+use Rattle.text_cause.specs.Cause.{IsLowest}
+use Rattle.ctl_text.specs.Cause.{Stands, Takes}
 
 -- what stands against the end of a text, below this group
 abbrev pub EndOfText : Group → TextCause → Type 0

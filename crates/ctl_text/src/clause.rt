@@ -1,7 +1,8 @@
 ghost use Rattle.std.specs.Prelude.{◌≡◌, ◌↔◌, ◌≤◌, ◌∷◌, IsTrue, IfOk, IfErr, length, map, codes};
 ghost use Rattle.ctl_form.specs.Form.{form_of};
 ghost use Rattle.ctl_form.specs.Kind.{role_at};
-ghost use Rattle.ctl_text.specs.Judged.{IsTakenAs, IsBadBy, IsClauseOf, IsSpelledOver, SpellingStands};
+ghost use Rattle.text_cause.specs.Answers.{IsBadBy};
+ghost use Rattle.ctl_text.specs.Judged.{IsTakenAs, IsClauseOf, IsSpelledOver, SpellingStands};
 ghost use Rattle.ctl_text.specs.Long.{IsLong};
 ghost use Rattle.ctl_text.specs.Required.{tokens_in};
 ghost use Rattle.ctl_text.specs.State.{with_form};
@@ -10,7 +11,6 @@ ghost use Rattle.ctl_text.specs.Sound.{IsSoundState};
 ghost use Rattle.ctl_text.specs.View.{group_of, state_of};
 
 use crate::FormulaFault;
-use crate::cause::{LineFault, TextCause};
 use crate::formula_reader::read_formula;
 use crate::long::is_long;
 use crate::place::{Place, Reader};
@@ -18,6 +18,7 @@ use crate::token::tokens_of;
 use ctl_form::Formula;
 use pair_structure::{Memory, Name, Role};
 use std::alloc::{AllocError, Global};
+use text_cause::{LineFault, TextCause};
 
 /// What stands below a line that requires a clause, of these words behind `require`.
 pub(crate) fn take_clause(

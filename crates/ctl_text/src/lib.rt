@@ -4,7 +4,6 @@
 mod added;
 mod beside;
 mod blocked;
-mod cause;
 mod clause;
 mod closure_count;
 mod edges;
@@ -31,7 +30,6 @@ mod take;
 mod token;
 mod token_sign;
 
-pub use cause::{TextCause, TextFault};
 pub use formula_fault::FormulaFault;
 pub use formula_laws::{canonical_is_formula, is_spelled_once};
 pub use laws::never_both;
@@ -40,3 +38,4 @@ pub use sign::{Leaf, Mark, Prefix, Sign};
 pub use spec::Spec;
 pub use spec_laws::canonical_is_spec_text;
 pub use spec_writer::write_spec;
+pub use text_cause::{TextCause, TextFault};

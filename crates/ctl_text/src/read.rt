@@ -9,7 +9,6 @@ ghost use Rattle.ctl_text.specs.View.{state_of};
 ghost use Rattle.ctl_text.specs.Answers.{IsRefusal};
 ghost use Rattle.ctl_text.specs.Made.{value_of, HasEnds};
 
-use crate::cause::{LineFault, TextCause, TextFault};
 use crate::edges::Edges;
 use crate::line::cut_line;
 use crate::place::{Place, Reader};
@@ -20,6 +19,7 @@ use ctl_form::PairSpec;
 use interconnection::{Edge, Network, NetworkFault, Process};
 use pair_structure::{Memory, Role};
 use std::alloc::Global;
+use text_cause::{LineFault, TextCause, TextFault};
 
 /// What a text makes: the network of its processes, and its kinds of pairs.
 #[derive(Drop)]

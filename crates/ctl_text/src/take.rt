@@ -1,19 +1,21 @@
 ghost use Rattle.std.specs.Prelude.{◌≡◌, ◌↔◌, ◌⊎◌, ◌∷◌, ◌≤◌, IsTrue, IfOk, IfErr, IfSome, IfNone, map, codes};
 ghost use Rattle.ctl_text.specs.Lines.{IsRequire};
 ghost use Rattle.ctl_text.specs.Item.{Said};
-ghost use Rattle.ctl_text.specs.Judged.{IsTakenAs, IsBadBy, CanSay, misplaced};
-ghost use Rattle.ctl_text.specs.Cause.{IsLowest, IsFree, Blocks, WordsStand, Stands, Takes};
+ghost use Rattle.text_cause.specs.Answers.{IsBadBy};
+ghost use Rattle.ctl_text.specs.Judged.{IsTakenAs, CanSay, misplaced};
+ghost use Rattle.text_cause.specs.Cause.{IsLowest, IsFree};
+ghost use Rattle.ctl_text.specs.Cause.{Blocks, WordsStand, Stands, Takes};
 ghost use Rattle.ctl_text.specs.Sound.{IsSoundState};
 ghost use Rattle.ctl_text.specs.View.{group_of, state_of, said};
 
 use crate::added::added;
 use crate::blocked::blocked;
-use crate::cause::{LineFault, TextCause};
 use crate::clause::take_clause;
 use crate::item::{Item, said_by};
 use crate::line::{are_passed, is_text, words_of};
 use crate::place::{Place, Reader, may_stand};
 use std::alloc::Global;
+use text_cause::{LineFault, TextCause};
 
 /// What stands below the line. Linear in the line and in what it names.
 pub(crate) fn take_line(alloc: Global, reader: Reader, line: &[u8]) -> Result<Reader, LineFault>

@@ -1,8 +1,10 @@
 -- How a line is judged: before the head, and below entries.
 use Rattle.std.proofs.Common.{ℕ, ◌≡◌, ◌≢◌, ◌∷◌, ◌++◌, List, [], length, refl, subst, true}
 use Rattle.std.specs.Prelude.{Some, None, codes}
-use Rattle.ctl_text.specs.declared.cause.TextCause.TheVariants.{NotText, BadHead, BadLine, UnknownName}
-use Rattle.ctl_text.specs.Cause.{IsLowest}
+use Rattle.text_cause.specs.declared.cause.TextCause.TheVariants.{NotText, BadHead, BadLine, UnknownName}
+use Rattle.text_cause.specs.Cause.{IsLowest}
+use Rattle.text_cause.proofs.Lowest.{row_lowest, row_free}
+use Rattle.text_cause.proofs.Rows.{not_text_lowest, bad_head_lowest, bad_line_lowest, blocked_lowest, line_free}
 use Rattle.strict_text.specs.Lines.{Line, IsStrict}
 use Rattle.strict_text.specs.Words.{words_of}
 use Rattle.conjunctive_compose.specs.declared.wish.Wish.{Wish}
@@ -11,78 +13,67 @@ use Rattle.firing_journal.specs.declared.journal.Entry.{Entry}
 use Rattle.firing_journal.specs.Journal.{EntryFits}
 use Rattle.firing_journal.specs.Said.{Said, Says, head_line, entry_line, done_line, words_for}
 use Rattle.firing_journal.specs.Place.{Place, MayStand, after, before_head, among_entries}
-use Rattle.firing_journal.specs.Cause.{IsUnknown, MaySay, Stands, Takes}
+use Rattle.firing_journal.specs.Cause.{IsUnknown, MaySay, LacksHead, Blocks, ReadStands, IsRead, Stands, Takes}
 use Rattle.firing_journal.specs.View.{IsKnown, place_after, wish_of_numbers}
-use Rattle.firing_journal.proofs.Causes.{not_text, bad_head, bad_line, unknown_name, none_stands}
 use Rattle.firing_journal.proofs.Words.{bytes_of_words, says_head, says_once}
 
 abbrev NotStrict : Line → Type 0
 NotStrict line = IsStrict line.bytes → ⊥
 
-abbrev NoHead : Place → Line → Type 0
-NoHead place line = (place ≡ before_head) × (words_of line.bytes ≢ words_for head_line)
+says_one : (place : Place) (line : Line) (x y : Said) → MaySay place line x → MaySay place line y → x ≡ y
+says_one place line x y a b = says_once line x y a.says b.says
 
-abbrev NothingStands : Place → Line → Type 0
-NothingStands place line = (said : Said) → MaySay place line said → ⊥
-
-abbrev SomeUnknown : SystemParts → Place → Line → Type 0
-SomeUnknown sys place line = (said : Said) × MaySay place line said × IsUnknown sys said
-
-pub line_not_text : (sys : SystemParts) (place : Place) (line : Line) → (IsStrict line.bytes → ⊥) → IsLowest (Stands sys place line) NotText
-line_not_text sys place line bad = not_text (NotStrict line) (NoHead place line) (NothingStands place line) (SomeUnknown sys place line) bad
+pub line_not_text : (sys : SystemParts) (place : Place) (line : Line) → (IsStrict line.bytes → ⊥) → IsLowest (ReadStands sys place line) NotText
+line_not_text sys place line bad = not_text_lowest (NotStrict line) (LacksHead place line) (MaySay place line) (Blocks sys) bad
 
 head_alone : (said : Said) → MayStand before_head said → said ≡ head_line
 head_alone head_line may = refl
 head_alone (entry_line entry) may = absurd may
 head_alone done_line may = absurd may
 
+not_head : (line : Line) → (line.bytes ≡ codes "journal 1" → ⊥) → words_of line.bytes ≡ words_for head_line → ⊥
+not_head line other is = other (bytes_of_words line.bytes (words_for head_line) is)
+
 pub head_wrong : (sys : SystemParts) (line : Line) → IsStrict line.bytes → (line.bytes ≡ codes "journal 1" → ⊥) → IsLowest (Stands sys before_head line) BadHead
-head_wrong sys line strict other = bad_head (NotStrict line) (NoHead before_head line) (NothingStands before_head line) (SomeUnknown sys before_head line) (λ bad. bad strict) (refl, λ is. other (bytes_of_words line.bytes (words_for head_line) is))
+head_wrong sys line strict other =
+    bad_head_lowest (NotStrict line) (LacksHead before_head line) (MaySay before_head line) (Blocks sys) (λ bad. bad strict) (λ said may. not_head line other (subst (λ x. words_of line.bytes ≡ words_for x) (head_alone said may.may) may.says.words.words_are)) (refl, not_head line other)
 
 pub head_not_ended : (sys : SystemParts) (line : Line) → IsStrict line.bytes → line.bytes ≡ codes "journal 1" → (line.is_ended ≡ true → ⊥) → IsLowest (Stands sys before_head line) BadLine
 head_not_ended sys line strict is open' =
-    bad_line (NotStrict line) (NoHead before_head line) (NothingStands before_head line) (SomeUnknown sys before_head line) (λ bad. bad strict) (λ no. no.1 (says_head line.bytes is).words_are) (λ said may. open' may.says.ended)
+    bad_line_lowest (NotStrict line) (LacksHead before_head line) (MaySay before_head line) (Blocks sys) (λ bad. bad strict) (λ no. no.1 (says_head line.bytes is).words_are) (λ said may. open' may.says.ended)
 
-unknown_head : (sys : SystemParts) (said : Said) → said ≡ head_line → IsUnknown sys said → ⊥
-unknown_head sys said is unknown = let none : IsUnknown sys head_line = subst (IsUnknown sys) is unknown in none
+-- the line says what may stand there, and nothing in it is unknown
+read_taken : (sys : SystemParts) (place : Place) (line : Line) (said : Said) → IsStrict line.bytes → (LacksHead place line → ⊥) → MaySay place line said → (IsUnknown sys said → ⊥) → IsRead sys place line (after place said)
+read_taken sys place line said strict has may known = record {
+  free = line_free (NotStrict line) (LacksHead place line) (MaySay place line) (Blocks sys) (says_one place line) said may (λ bad. bad strict) has (row_free UnknownName (IsUnknown sys said) known);
+  said = said;
+  leaves = record { may = may; next_is = refl };
+}
 
 pub head_taken : (sys : SystemParts) (line : Line) → IsStrict line.bytes → line.bytes ≡ codes "journal 1" → line.is_ended ≡ true → Takes sys before_head line (among_entries [])
 head_taken sys line strict is ended =
     let says : Says line head_line = record { ended = ended; words = says_head line.bytes is } in
-    let may : MaySay before_head line head_line = record { says = says; may = tt } in
-    record {
-      free = none_stands (NotStrict line) (NoHead before_head line) (NothingStands before_head line) (SomeUnknown sys before_head line) (λ bad. bad strict) (λ no. no.1 says.words.words_are) (λ none. none head_line may) (λ some. unknown_head sys some.0 (head_alone some.0 some.1.may) some.2);
-      leaves = (head_line, record { may = may; next_is = refl });
-    }
+    read_taken sys before_head line head_line strict (λ no. no.1 says.words.words_are) (record { says = says; may = tt }) (λ none. none)
 
-not_before : (entries : List Entry) → among_entries entries ≡ before_head → ⊥
-not_before entries is = cc
+has_head : (entries : List Entry) (line : Line) → LacksHead (among_entries entries) line → ⊥
+has_head entries line lacks = let is = lacks.0 in cc
 
 pub nothing_said : (sys : SystemParts) (entries : List Entry) (line : Line) → IsStrict line.bytes → ((said : Said) → Says line said → ⊥) → IsLowest (Stands sys (among_entries entries) line) BadLine
-nothing_said sys entries line strict none =
-    bad_line (NotStrict line) (NoHead (among_entries entries) line) (NothingStands (among_entries entries) line) (SomeUnknown sys (among_entries entries) line) (λ bad. bad strict) (λ no. not_before entries no.0) (λ said may. none said may.says)
+nothing_said sys entries line strict none = bad_line_lowest (NotStrict line) (LacksHead (among_entries entries) line) (MaySay (among_entries entries) line) (Blocks sys) (λ bad. bad strict) (has_head entries line) (λ said may. none said may.says)
 
 -- the line says what may not stand there
 pub misplaced : (sys : SystemParts) (entries : List Entry) (line : Line) (said : Said) → IsStrict line.bytes → Says line said → (MayStand (among_entries entries) said → ⊥) → IsLowest (Stands sys (among_entries entries) line) BadLine
 misplaced sys entries line said strict says not =
-    bad_line (NotStrict line) (NoHead (among_entries entries) line) (NothingStands (among_entries entries) line) (SomeUnknown sys (among_entries entries) line) (λ bad. bad strict) (λ no. not_before entries no.0)
-    (λ other may. not (subst (MayStand (among_entries entries)) (says_once line other said may.says says) may.may))
+    bad_line_lowest (NotStrict line) (LacksHead (among_entries entries) line) (MaySay (among_entries entries) line) (Blocks sys) (λ bad. bad strict) (has_head entries line) (λ other may. not (subst (MayStand (among_entries entries)) (says_once line other said may.says says) may.may))
 
 -- the line says an entry that may stand there, but not for this system
 pub unknown : (sys : SystemParts) (entries : List Entry) (line : Line) (entry : Entry) → IsStrict line.bytes → Says line (entry_line entry) → entry.number ≡ length entries → (EntryFits sys entry → ⊥) → IsLowest (Stands sys (among_entries entries) line) UnknownName
 unknown sys entries line entry strict says place not =
     let may : MaySay (among_entries entries) line (entry_line entry) = record { says = says; may = place } in
-    unknown_name (NotStrict line) (NoHead (among_entries entries) line) (NothingStands (among_entries entries) line) (SomeUnknown sys (among_entries entries) line) (λ bad. bad strict) (λ no. not_before entries no.0) (λ none. none (entry_line entry) may) (entry_line entry, may, not)
+    blocked_lowest (NotStrict line) (LacksHead (among_entries entries) line) (MaySay (among_entries entries) line) (Blocks sys) (says_one (among_entries entries) line) (entry_line entry) may (λ bad. bad strict) (has_head entries line) UnknownName (row_lowest UnknownName (IsUnknown sys (entry_line entry)) not)
 
--- the line says what may stand there, and nothing in it is unknown
 pub taken : (sys : SystemParts) (entries : List Entry) (line : Line) (said : Said) → IsStrict line.bytes → Says line said → MayStand (among_entries entries) said → (IsUnknown sys said → ⊥) → Takes sys (among_entries entries) line (after (among_entries entries) said)
-taken sys entries line said strict says stands known =
-    let may : MaySay (among_entries entries) line said = record { says = says; may = stands } in
-    record {
-      free = none_stands (NotStrict line) (NoHead (among_entries entries) line) (NothingStands (among_entries entries) line) (SomeUnknown sys (among_entries entries) line) (λ bad. bad strict) (λ no. not_before entries no.0) (λ none. none said may)
-          (λ some. known (subst (IsUnknown sys) (says_once line some.0 said some.1.says says) some.2));
-      leaves = (said, record { may = may; next_is = refl });
-    }
+taken sys entries line said strict says stands known = read_taken sys (among_entries entries) line said strict (has_head entries line) (record { says = says; may = stands }) known
 
 pub done_taken : (sys : SystemParts) (entries : List Entry) (line : Line) → IsStrict line.bytes → Says line done_line → Takes sys (among_entries entries) line (place_after entries None)
 done_taken sys entries line strict says = taken sys entries line done_line strict says tt (λ none. none)

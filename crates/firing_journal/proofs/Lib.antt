@@ -1,4 +1,3 @@
-pub mod Causes
 pub mod Judged
 pub mod Numbered
 pub mod OneText

@@ -3,6 +3,7 @@ use Rattle.std.proofs.Common.{ℕ, ◌≡◌, ◌∷◌, ◌++◌, inl, inr, Lis
 use Rattle.std.specs.Prelude.{Bool, if◌then◌else◌}
 use Rattle.std.specs.List.{flat_map}
 use Rattle.std.proofs.lemmas.List.{append_assoc, append-nil}
+use Rattle.text_cause.specs.Grammar.{StandsFor}
 use Rattle.strict_text.specs.Lines.{Line, lines_of, text_of}
 use Rattle.strict_text.specs.Spaced.{spaced}
 use Rattle.strict_text.proofs.LineLaws.{text_of_lines}
@@ -12,8 +13,7 @@ use Rattle.firing_journal.specs.JournalText.{OneText, entry_text, journal_text, 
 use Rattle.firing_journal.specs.Said.{Said, Says, head_line, entry_line, done_line, words_for}
 use Rattle.firing_journal.specs.Place.{Place, among_entries, after_done, before_head}
 use Rattle.firing_journal.specs.Cause.{Leaves}
-use Rattle.firing_journal.specs.Text.{StandsFor}
-use Rattle.firing_journal.proofs.Texts.{none_taken}
+use Rattle.firing_journal.specs.Text.{journals}
 use Rattle.firing_journal.proofs.Words.{bytes_of_words}
 
 -- the text of a line that says this, before that of the lines below it
@@ -21,10 +21,9 @@ line_text_of : (line : Line) (lines : List Line) (said : Said) → Says line sai
 line_text_of line lines said says = ap (λ (b : Bool). line.bytes ++ (if b then 10 ∷ text_of lines else text_of lines)) says.ended ∙ ap (λ (bytes : List ℕ). bytes ++ 10 ∷ text_of lines) (bytes_of_words line.bytes (words_for said) says.words.words_are) ∙ sym (append_assoc (spaced (words_for said)) (10 ∷ []) (text_of lines))
 
 -- what stands below `done` leaves what stood above it
-done_gives : (sys : SystemParts) (entries : List Entry) (lines : List Line) (v : List Entry) → StandsFor sys (after_done entries) lines v → v ≡ entries
+done_gives : (sys : SystemParts) (entries : List Entry) (lines : List Line) (v : List Entry) → StandsFor (journals sys) (after_done entries) lines v → v ≡ entries
 done_gives sys entries [] v below = below
-done_gives sys entries (line ∷ lines) v (inl gives) = gives
-done_gives sys entries (line ∷ lines) v (inr (next, takes, below)) = absurd (none_taken sys (after_done entries) line next entries refl takes)
+done_gives sys entries (line ∷ lines) v (next, is, below) = done_gives sys entries lines v (subst (λ (p : Place). StandsFor (journals sys) p lines v) is below)
 
 -- these entries are appended to those above, and the lines are their text with `done`
 record IsBelow (before : List Entry) (lines : List Line) (v : List Entry) : Type 0 where
@@ -33,15 +32,14 @@ record IsBelow (before : List Entry) (lines : List Line) (v : List Entry) : Type
   entries_are : v ≡ before ++ later
   text_is : text_of lines ≡ flat_map entry_text later ++ (said_text done_line ++ rest)
 
-one_below : (sys : SystemParts) (before : List Entry) (lines : List Line) (v : List Entry) → StandsFor sys (among_entries before) lines v → IsBelow before lines v
+one_below : (sys : SystemParts) (before : List Entry) (lines : List Line) (v : List Entry) → StandsFor (journals sys) (among_entries before) lines v → IsBelow before lines v
 one_below sys before [] v below = absurd below
-one_below sys before (line ∷ lines) v (inl gives) = absurd gives
-one_below sys before (line ∷ lines) v (inr (next, takes, below)) = by takes.leaves.0 takes.leaves.1 (λ (e : Entry) (later : StandsFor sys (among_entries (before ++ e ∷ [])) lines v). one_below sys (before ++ e ∷ []) lines v later)
+one_below sys before (line ∷ lines) v (next, takes, below) = by takes.said takes.leaves (λ (e : Entry) (later : StandsFor (journals sys) (among_entries (before ++ e ∷ [])) lines v). one_below sys (before ++ e ∷ []) lines v later)
   where
-    by : (said : Said) → Leaves (among_entries before) line said next → ((e : Entry) → StandsFor sys (among_entries (before ++ e ∷ [])) lines v → IsBelow (before ++ e ∷ []) lines v) → IsBelow before (line ∷ lines) v
+    by : (said : Said) → Leaves (among_entries before) line said next → ((e : Entry) → StandsFor (journals sys) (among_entries (before ++ e ∷ [])) lines v → IsBelow (before ++ e ∷ []) lines v) → IsBelow before (line ∷ lines) v
     by head_line leaves again = absurd leaves.may.may
     by (entry_line e) leaves again =
-        let more = again e (subst (λ (p : Place). StandsFor sys p lines v) leaves.next_is below) in
+        let more = again e (subst (λ (p : Place). StandsFor (journals sys) p lines v) leaves.next_is below) in
         record {
           later = e ∷ more.later;
           rest = more.rest;
@@ -51,18 +49,17 @@ one_below sys before (line ∷ lines) v (inr (next, takes, below)) = by takes.le
     by done_line leaves again = record {
       later = [];
       rest = text_of lines;
-      entries_are = done_gives sys before lines v (subst (λ (p : Place). StandsFor sys p lines v) leaves.next_is below) ∙ sym (append-nil before);
+      entries_are = done_gives sys before lines v (subst (λ (p : Place). StandsFor (journals sys) p lines v) leaves.next_is below) ∙ sym (append-nil before);
       text_is = line_text_of line lines done_line leaves.may.says;
     }
 
-below_head : (sys : SystemParts) (lines : List Line) (v : List Entry) → StandsFor sys before_head lines v → (rest : List ℕ) × (text_of lines ≡ journal_text v ++ rest)
+below_head : (sys : SystemParts) (lines : List Line) (v : List Entry) → StandsFor (journals sys) before_head lines v → (rest : List ℕ) × (text_of lines ≡ journal_text v ++ rest)
 below_head sys [] v below = absurd below
-below_head sys (line ∷ lines) v (inl gives) = absurd gives
-below_head sys (line ∷ lines) v (inr (next, takes, below)) = by takes.leaves.0 takes.leaves.1
+below_head sys (line ∷ lines) v (next, takes, below) = by takes.said takes.leaves
   where
     by : (said : Said) → Leaves before_head line said next → (rest : List ℕ) × (text_of (line ∷ lines) ≡ journal_text v ++ rest)
     by head_line leaves =
-        let more = one_below sys [] lines v (subst (λ (p : Place). StandsFor sys p lines v) leaves.next_is below) in
+        let more = one_below sys [] lines v (subst (λ (p : Place). StandsFor (journals sys) p lines v) leaves.next_is below) in
         let text = line_text_of line lines head_line leaves.may.says ∙ ap (λ (l : List ℕ). said_text head_line ++ l) (more.text_is ∙ ap (λ (entries : List Entry). flat_map entry_text entries ++ (said_text done_line ++ more.rest)) (sym more.entries_are)) in
         (more.rest, text ∙ sym (append_assoc (said_text head_line ++ flat_map entry_text v) (said_text done_line) more.rest ∙ append_assoc (said_text head_line) (flat_map entry_text v) (said_text done_line ++ more.rest)))
     by (entry_line e) leaves = absurd leaves.may.may

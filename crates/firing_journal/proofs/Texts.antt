@@ -1,91 +1,88 @@
--- A text stands for one journal at most, and is never both read and refused.
-use Rattle.std.proofs.Common.{ℕ, ◌≡◌, ◌<◌, ◌≤◌, ◌+◌, length, arith, inl, inr, List, [], ◌∷◌, sym, ap, ◌∙◌, subst, refl}
-use Rattle.ctl_text.specs.declared.cause.TextCause.{TextCause}
+-- The grammar of journals is lawful, and is read line by line as far as `done`.
+use Rattle.std.proofs.Common.{ℕ, ◌≡◌, ◌<◌, ◌+◌, arith, length, inl, inr, List, [], ◌∷◌, sym, ap, ◌∙◌, subst, refl}
 use Rattle.std.specs.Prelude.{Option, None, Some}
 use Rattle.std.proofs.lemmas.List.Elements.{All-push}
-use Rattle.strict_text.specs.Lines.{Line, lines_of}
+use Rattle.text_cause.specs.declared.cause.TextCause.{TextCause}
+use Rattle.text_cause.specs.declared.cause.TextCause.TheVariants.{UnknownName}
+use Rattle.text_cause.specs.Cause.{IsLowest}
+use Rattle.text_cause.specs.Grammar.{StandsFor}
+use Rattle.text_cause.specs.Laws.{IsLawful}
+use Rattle.text_cause.proofs.Lowest.{from_row, one_each_row}
+use Rattle.text_cause.proofs.Reading.{IsReadTo, read_line}
+use Rattle.text_cause.proofs.Rows.{line_once}
+use Rattle.strict_text.specs.Lines.{IsStrict, Line, lines_of}
 use Rattle.conjunctive_compose.specs.declared.wish.Wish.{Wish}
 use Rattle.conjunctive_compose.specs.System.{SystemParts}
 use Rattle.firing_journal.specs.declared.journal.Entry.{Entry}
 use Rattle.firing_journal.specs.Journal.{EntryFits, JournalFits}
 use Rattle.firing_journal.specs.View.{IsFitting, grown, place_after}
 use Rattle.firing_journal.specs.Place.{Place, after, before_head, among_entries, after_done}
-use Rattle.firing_journal.specs.Cause.{Takes}
-use Rattle.firing_journal.specs.Text.{EndOfText, Gives, IsOpen, RefusedAt, StandsFor}
+use Rattle.firing_journal.specs.Cause.{Blocks, IsRead, IsUnknown, LacksHead, MaySay, ReadStands, Stands, Takes}
+use Rattle.firing_journal.specs.Text.{EndStands, Gives, journals}
 use Rattle.firing_journal.proofs.Words.{says_once}
 
-pub takes_once : (sys : SystemParts) (place : Place) (line : Line) (s t : Place) → Takes sys place line s → Takes sys place line t → s ≡ t
-takes_once sys place line s t a b =
-    let x = a.leaves in
-    let y = b.leaves in
-    x.1.next_is ∙ ap (after place) (says_once line x.0 y.0 x.1.may.says y.1.may.says) ∙ sym y.1.next_is
+read_once : (sys : SystemParts) (place : Place) (line : Line) (s t : Place) → IsRead sys place line s → IsRead sys place line t → s ≡ t
+read_once sys place line s t a b = a.leaves.next_is ∙ ap (after place) (says_once line a.said b.said a.leaves.may.says b.leaves.may.says) ∙ sym b.leaves.next_is
 
--- no line is taken after the end
-pub none_taken : (sys : SystemParts) (place : Place) (line : Line) (next : Place) (v : List Entry) → Gives place v → Takes sys place line next → ⊥
-none_taken sys before_head line next v gives takes = gives
-none_taken sys (among_entries entries) line next v gives takes = gives
-none_taken sys (after_done entries) line next v gives takes = takes.leaves.1.may.may
+takes_once : (sys : SystemParts) (place : Place) (line : Line) (s t : Place) → Takes sys place line s → Takes sys place line t → s ≡ t
+takes_once sys before_head line s t a b = read_once sys before_head line s t a b
+takes_once sys (among_entries entries) line s t a b = read_once sys (among_entries entries) line s t a b
+takes_once sys (after_done entries) line s t a b = a ∙ sym b
+
+takes_free : (sys : SystemParts) (place : Place) (line : Line) (t : Place) (cause : TextCause) → Takes sys place line t → Stands sys place line cause → ⊥
+takes_free sys before_head line t cause a h = a.free.free cause h
+takes_free sys (among_entries entries) line t cause a h = a.free.free cause h
+takes_free sys (after_done entries) line t cause a h = h
 
 gives_once : (place : Place) (v w : List Entry) → Gives place v → Gives place w → v ≡ w
 gives_once before_head v w a b = absurd a
 gives_once (among_entries entries) v w a b = absurd a
 gives_once (after_done entries) v w a b = a ∙ sym b
 
-pub stands_once : (sys : SystemParts) (place : Place) (lines : List Line) (v w : List Entry) → StandsFor sys place lines v → StandsFor sys place lines w → v ≡ w
-stands_once sys place [] v w a b = gives_once place v w a b
-stands_once sys place (line ∷ lines) v w (inl a) (inl b) = gives_once place v w a b
-stands_once sys place (line ∷ lines) v w (inl a) (inr (t, b, more)) = absurd (none_taken sys place line t v a b)
-stands_once sys place (line ∷ lines) v w (inr (t, a, more)) (inl b) = absurd (none_taken sys place line t w b a)
-stands_once sys place (line ∷ lines) v w (inr (t, a, more)) (inr (u, b, others)) = stands_once sys t lines v w more (subst (λ (p : Place). StandsFor sys p lines w) (takes_once sys place line u t b a) others)
+gives_free : (place : Place) (v : List Entry) (cause : TextCause) → Gives place v → EndStands place cause → ⊥
+gives_free before_head v cause a b = a
+gives_free (among_entries entries) v cause a b = a
+gives_free (after_done entries) v cause a b = b
 
-gives_end : (place : Place) (v : List Entry) (cause : TextCause) → Gives place v → EndOfText place cause → ⊥
-gives_end before_head v cause a b = a
-gives_end (among_entries entries) v cause a b = a
-gives_end (after_done entries) v cause a b = b
+ends_once : (place : Place) (c d : TextCause) → EndStands place c → EndStands place d → c ≡ d
+ends_once before_head c d a b = a ∙ sym b
+ends_once (among_entries entries) c d a b = a ∙ sym b
+ends_once (after_done entries) c d a b = absurd a
 
-gives_shut : (place : Place) (v : List Entry) → Gives place v → IsOpen place → ⊥
-gives_shut before_head v a b = a
-gives_shut (among_entries entries) v a b = a
-gives_shut (after_done entries) v a b = b
+read_refused_once : (sys : SystemParts) (place : Place) (line : Line) (c d : TextCause) → IsLowest (ReadStands sys place line) c → IsLowest (ReadStands sys place line) d → c ≡ d
+read_refused_once sys place line c d a b =
+    line_once (IsStrict line.bytes → ⊥) (LacksHead place line) (MaySay place line) (Blocks sys) (λ x y p q. says_once line x y p.says q.says) (λ said. from_row 5 UnknownName (IsUnknown sys said) (omega arith)) (λ said. one_each_row UnknownName (IsUnknown sys said)) c d a b
 
-pub never_both : (sys : SystemParts) (place : Place) (n : ℕ) (lines : List Line) (v : List Entry) (at : ℕ) (cause : TextCause) → StandsFor sys place lines v → RefusedAt sys place n lines at cause → ⊥
-never_both sys place n [] v at cause a b = gives_end place v cause a b.1
-never_both sys place n (line ∷ lines) v at cause (inl a) (inl b) = gives_shut place v a b.1
-never_both sys place n (line ∷ lines) v at cause (inl a) (inr (u, b, others)) = none_taken sys place line u v a b
-never_both sys place n (line ∷ lines) v at cause (inr (t, a, more)) (inl b) = a.free.free cause b.2.stands
-never_both sys place n (line ∷ lines) v at cause (inr (t, a, more)) (inr (u, b, others)) =
-    never_both sys t (n + 1) lines v at cause more (subst (λ (p : Place). RefusedAt sys p (n + 1) lines at cause) (takes_once sys place line u t b a) others)
+refused_once : (sys : SystemParts) (place : Place) (line : Line) (c d : TextCause) → IsLowest (Stands sys place line) c → IsLowest (Stands sys place line) d → c ≡ d
+refused_once sys before_head line c d a b = read_refused_once sys before_head line c d a b
+refused_once sys (among_entries entries) line c d a b = read_refused_once sys (among_entries entries) line c d a b
+refused_once sys (after_done entries) line c d a b = absurd a.stands
+
+pub journals_lawful : (sys : SystemParts) → IsLawful (journals sys)
+journals_lawful sys = record { taken_once = takes_once sys; taken_free = takes_free sys; refused_once = refused_once sys; given_once = gives_once; given_free = gives_free; ended_once = ends_once }
 
 -- what stands behind `done` is not read
-pub done_stands : (sys : SystemParts) (entries : List Entry) (lines : List Line) → StandsFor sys (after_done entries) lines entries
+pub done_stands : (sys : SystemParts) (entries : List Entry) (lines : List Line) → StandsFor (journals sys) (after_done entries) lines entries
 done_stands sys entries [] = refl
-done_stands sys entries (line ∷ lines) = inl refl
+done_stands sys entries (line ∷ lines) = (after_done entries, refl, done_stands sys entries lines)
 
--- the first line is taken, and the lines below it leave these entries
-pub line_stands : (sys : SystemParts) (place next : Place) (lines more : List Line) (line : Line) (v : List Entry) → lines ≡ line ∷ more → Takes sys place line next → StandsFor sys next more v → StandsFor sys place lines v
-line_stands sys place next lines more line v is takes below = rw is (inr (next, takes, below))
-
--- the text below the head is read up to this rest, of which the first line is line n
-pub record ReadUpTo (sys : SystemParts) (bytes rest : List ℕ) (journal : List Entry) (n : ℕ) : Type 0 where
-  pub stands : (v : List Entry) → StandsFor sys (among_entries journal) (lines_of rest) v → StandsFor sys (among_entries []) (lines_of bytes) v
-  pub refused : (at : ℕ) (cause : TextCause) → RefusedAt sys (among_entries journal) n (lines_of rest) at cause → RefusedAt sys (among_entries []) 2 (lines_of bytes) at cause
+-- the text is read to this rest, with these entries
+pub record IsReadWith (sys : SystemParts) (bytes rest : List ℕ) (journal : List Entry) (n : ℕ) : Type 0 where
+  pub read : IsReadTo (journals sys) (among_entries []) 2 bytes rest (among_entries journal) n
   pub fits : JournalFits sys journal
-  pub line_in : n + length rest ≤ length bytes + 2
 
-pub read_done : (sys : SystemParts) (bytes rest behind : List ℕ) (journal : List Entry) (n : ℕ) (line : Line) (said : Option (ℕ × Wish)) → ReadUpTo sys bytes rest journal n → lines_of rest ≡ line ∷ lines_of behind → said ≡ None → Takes sys (among_entries journal) line (place_after journal said)
-    → StandsFor sys (among_entries []) (lines_of bytes) journal
+pub read_done : (sys : SystemParts) (bytes rest behind : List ℕ) (journal : List Entry) (n : ℕ) (line : Line) (said : Option (ℕ × Wish)) → IsReadWith sys bytes rest journal n → lines_of rest ≡ line ∷ lines_of behind → said ≡ None → Takes sys (among_entries journal) line (place_after journal said)
+    → StandsFor (journals sys) (among_entries []) (lines_of bytes) journal
 read_done sys bytes rest behind journal n line said so cut is takes =
     let takes' : Takes sys (among_entries journal) line (after_done journal) = subst (λ (o : Option (ℕ × Wish)). Takes sys (among_entries journal) line (place_after journal o)) is takes in
-    so.stands journal (rw cut (inr (after_done journal, takes', done_stands sys journal (lines_of behind))))
+    so.read.stands journal (rw cut (after_done journal, takes', done_stands sys journal (lines_of behind)))
 
-pub read_more : (sys : SystemParts) (bytes rest behind : List ℕ) (journal more : List Entry) (n : ℕ) (line : Line) (said : Option (ℕ × Wish)) (next : ℕ × Wish) → ReadUpTo sys bytes rest journal n → lines_of rest ≡ line ∷ lines_of behind → length behind < length rest
-    → said ≡ Some next → IsFitting sys said → Takes sys (among_entries journal) line (place_after journal said) → more ≡ grown journal next → ReadUpTo sys bytes behind more (n + 1)
+pub read_more : (sys : SystemParts) (bytes rest behind : List ℕ) (journal more : List Entry) (n : ℕ) (line : Line) (said : Option (ℕ × Wish)) (next : ℕ × Wish) → IsReadWith sys bytes rest journal n → lines_of rest ≡ line ∷ lines_of behind → length behind < length rest
+    → said ≡ Some next → IsFitting sys said → Takes sys (among_entries journal) line (place_after journal said) → more ≡ grown journal next → IsReadWith sys bytes behind more (n + 1)
 read_more sys bytes rest behind journal more n line said next so cut shorter said_is fits takes is =
     let fits' : IsFitting sys (Some next) = subst (IsFitting sys) said_is fits in
     let takes' : Takes sys (among_entries journal) line (among_entries (grown journal next)) = subst (λ (o : Option (ℕ × Wish)). Takes sys (among_entries journal) line (place_after journal o)) said_is takes in
-    subst (λ (m : List Entry). ReadUpTo sys bytes behind m (n + 1)) (sym is) (record {
-      stands = λ v below. so.stands v (rw cut (inr (among_entries (grown journal next), takes', below)));
-      refused = λ at cause below. so.refused at cause (rw cut (inr (among_entries (grown journal next), takes', below)));
+    subst (λ (m : List Entry). IsReadWith sys bytes behind m (n + 1)) (sym is) (record {
+      read = read_line (journals sys) (among_entries []) 2 bytes rest behind (among_entries journal) (among_entries (grown journal next)) n line so.read cut shorter takes';
       fits = All-push (EntryFits sys) journal (record { number = length journal; caller = next.0; wish = next.1 }) so.fits (record { wish = fits'.fits; caller = fits'.caller_in });
-      line_in = omega (arith, so.line_in, shorter);
     })

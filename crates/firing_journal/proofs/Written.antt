@@ -4,6 +4,8 @@ use Rattle.std.specs.Prelude.{codes}
 use Rattle.std.specs.List.{flat_map}
 use Rattle.std.proofs.lemmas.List.{append_assoc, append-nil, length-append}
 use Rattle.std.proofs.lemmas.List.Elements.{All-tail}
+use Rattle.text_cause.specs.Grammar.{StandsFor}
+use Rattle.text_cause.proofs.Reading.{line_stands}
 use Rattle.strict_text.specs.Lines.{Line, IsStrict, lines_of}
 use Rattle.strict_text.specs.Spaced.{AreWords, IsWord, spaced}
 use Rattle.strict_text.proofs.NumberLaws.{decimal_word}
@@ -11,14 +13,14 @@ use Rattle.strict_text.proofs.WordLaws.{line_of_words, strict_words, words_of_li
 use Rattle.conjunctive_compose.specs.System.{SystemParts}
 use Rattle.firing_journal.specs.declared.journal.Entry.{Entry}
 use Rattle.firing_journal.specs.Journal.{EntryFits, JournalFits}
-use Rattle.firing_journal.specs.JournalText.{HasSmallNumbers, ReadBack, entry_text, journal_text, said_text}
-use Rattle.firing_journal.specs.Said.{Said, HasNumbers, Says, head_line, entry_line, done_line, words_for}
+use Rattle.firing_journal.specs.JournalText.{ReadBack, entry_text, journal_text, said_text}
+use Rattle.firing_journal.specs.Said.{Said, HasNumbers, HasSmallNumbers, Says, head_line, entry_line, done_line, words_for}
 use Rattle.firing_journal.specs.Place.{MayStand, among_entries, after, after_done, before_head}
 use Rattle.firing_journal.specs.Cause.{IsUnknown, Takes}
-use Rattle.firing_journal.specs.Text.{StandsFor}
+use Rattle.firing_journal.specs.Text.{journals}
 use Rattle.firing_journal.proofs.Judged.{head_taken, taken}
 use Rattle.firing_journal.proofs.Numbered.{number_at}
-use Rattle.firing_journal.proofs.Texts.{done_stands, line_stands}
+use Rattle.firing_journal.proofs.Texts.{done_stands}
 
 journal_word : IsWord (codes "journal")
 journal_word = (omega arith, omega arith, (omega arith, omega arith, (omega arith, omega arith, (omega arith, omega arith, (omega arith, omega arith, (omega arith, omega arith, (omega arith, omega arith, tt)))))))
@@ -63,17 +65,17 @@ IsNumberedFrom n entries = (i : ℕ) (d : Entry) → i < length entries → (get
 abbrev text_below : List Entry → List ℕ → List ℕ
 text_below entries rest = flat_map entry_text entries ++ (said_text done_line ++ rest)
 
-done_below : (sys : SystemParts) (before : List Entry) (rest : List ℕ) → StandsFor sys (among_entries before) (lines_of (said_text done_line ++ rest)) before
-done_below sys before rest = line_stands sys (among_entries before) (after_done before) (lines_of (said_text done_line ++ rest)) (lines_of rest) (written done_line) before (line_written done_line rest tt) (takes_written sys before done_line tt tt (λ none. none)) (done_stands sys before (lines_of rest))
+done_below : (sys : SystemParts) (before : List Entry) (rest : List ℕ) → StandsFor (journals sys) (among_entries before) (lines_of (said_text done_line ++ rest)) before
+done_below sys before rest = line_stands (journals sys) (among_entries before) (after_done before) (lines_of (said_text done_line ++ rest)) (lines_of rest) (written done_line) before (line_written done_line rest tt) (takes_written sys before done_line tt tt (λ none. none)) (done_stands sys before (lines_of rest))
 
-entries_below : (sys : SystemParts) (before entries all : List Entry) (rest : List ℕ) → IsNumberedFrom (length before) entries → All HasSmallNumbers entries → JournalFits sys entries → all ≡ before ++ entries → StandsFor sys (among_entries before) (lines_of (text_below entries rest)) all
+entries_below : (sys : SystemParts) (before entries all : List Entry) (rest : List ℕ) → IsNumberedFrom (length before) entries → All HasSmallNumbers entries → JournalFits sys entries → all ≡ before ++ entries → StandsFor (journals sys) (among_entries before) (lines_of (text_below entries rest)) all
 entries_below sys before [] all rest numbered small fits is = rw (is, append-nil) (done_below sys before rest)
 entries_below sys before (e ∷ entries) all rest numbered small fits is =
     let here = takes_written sys before (entry_line e) (small 0 e (omega arith)) (numbered 0 e (omega arith) ∙ omega arith) (λ not. not (fits 0 e (omega arith))) in
     let size = length-append before (e ∷ []) in
     let next = entries_below sys (before ++ e ∷ []) entries all rest (λ i d lt. numbered (suc i) d (omega (arith, lt)) ∙ omega (arith, size)) (All-tail HasSmallNumbers e entries small) (All-tail (EntryFits sys) e entries fits) (is ∙ sym (append_assoc before (e ∷ []) entries)) in
     let cut = ap lines_of (append_assoc (entry_text e) (flat_map entry_text entries) (said_text done_line ++ rest)) ∙ line_written (entry_line e) (text_below entries rest) (small 0 e (omega arith)) in
-    line_stands sys (among_entries before) (among_entries (before ++ e ∷ [])) (lines_of (text_below (e ∷ entries) rest)) (lines_of (text_below entries rest)) (written (entry_line e)) all cut here next
+    line_stands (journals sys) (among_entries before) (among_entries (before ++ e ∷ [])) (lines_of (text_below (e ∷ entries) rest)) (lines_of (text_below entries rest)) (written (entry_line e)) all cut here next
 
 pub read_back : ReadBack
 unfolding written
@@ -81,4 +83,4 @@ read_back sys entries rest numbered small fits =
     let below = entries_below sys [] entries entries rest (λ i d lt. number_at entries i d numbered lt ∙ omega arith) small fits refl in
     let head = head_taken sys (written head_line) (strict_written head_line tt) refl refl in
     let cut = ap lines_of (append_assoc (said_text head_line ++ flat_map entry_text entries) (said_text done_line) rest ∙ append_assoc (said_text head_line) (flat_map entry_text entries) (said_text done_line ++ rest)) ∙ line_written head_line (text_below entries rest) tt in
-    line_stands sys before_head (among_entries []) (lines_of (journal_text entries ++ rest)) (lines_of (text_below entries rest)) (written head_line) entries cut head below
+    line_stands (journals sys) before_head (among_entries []) (lines_of (journal_text entries ++ rest)) (lines_of (text_below entries rest)) (written head_line) entries cut head below

@@ -1,14 +1,14 @@
 -- Why a line of a journal is refused: each cause with the rule that the line breaks.
-use Rattle.std.specs.Prelude.{◌≡◌, ◌≢◌, ◌⊎◌}
+use Rattle.std.specs.Prelude.{◌≡◌, ◌≢◌}
 use Rattle.conjunctive_compose.specs.System.{SystemParts}
-use Rattle.ctl_text.specs.declared.cause.TextCause.{TextCause}
-use Rattle.ctl_text.specs.declared.cause.TextCause.TheVariants.{NotText, BadHead, BadLine, UnknownName}
-use Rattle.ctl_text.specs.Cause.{IsFree}
+use Rattle.text_cause.specs.declared.cause.TextCause.{TextCause}
+use Rattle.text_cause.specs.declared.cause.TextCause.TheVariants.{UnknownName}
+use Rattle.text_cause.specs.Cause.{IsFree, Row, LineStands}
 use Rattle.strict_text.specs.Lines.{Line, IsStrict}
 use Rattle.strict_text.specs.Words.{words_of}
 use Rattle.firing_journal.specs.Journal.{EntryFits}
 use Rattle.firing_journal.specs.Said.{Said, Says, head_line, entry_line, done_line, words_for}
-use Rattle.firing_journal.specs.Place.{Place, MayStand, after, before_head}
+use Rattle.firing_journal.specs.Place.{Place, MayStand, after, before_head, among_entries, after_done}
 
 -- the line says something that may stand there
 pub record MaySay (place : Place) (line : Line) (said : Said) : Type 0 where
@@ -21,13 +21,22 @@ IsUnknown sys head_line = ⊥
 IsUnknown sys (entry_line entry) = EntryFits sys entry → ⊥
 IsUnknown sys done_line = ⊥
 
--- what stands against a line there
+-- what stands against a line that may stand there
+abbrev pub Blocks : SystemParts → Said → TextCause → Type 0
+Blocks sys said cause = Row UnknownName (IsUnknown sys said) cause
+
+abbrev pub LacksHead : Place → Line → Type 0
+LacksHead place line = (place ≡ before_head) × (words_of line.bytes ≢ words_for head_line)
+
+-- what stands against a line that is read there
+abbrev pub ReadStands : SystemParts → Place → Line → TextCause → Type 0
+ReadStands sys place line = LineStands (IsStrict line.bytes → ⊥) (LacksHead place line) (MaySay place line) (Blocks sys)
+
+-- what stands against a line there: below `done`, nothing
 abbrev pub Stands : SystemParts → Place → Line → TextCause → Type 0
-Stands sys place line cause =
-    ((cause ≡ NotText) × (IsStrict line.bytes → ⊥))
-    ⊎ (((cause ≡ BadHead) × ((place ≡ before_head) × (words_of line.bytes ≢ words_for head_line)))
-    ⊎ (((cause ≡ BadLine) × ((said : Said) → MaySay place line said → ⊥))
-    ⊎ ((cause ≡ UnknownName) × ((said : Said) × MaySay place line said × IsUnknown sys said))))
+Stands sys before_head line cause = ReadStands sys before_head line cause
+Stands sys (among_entries entries) line cause = ReadStands sys (among_entries entries) line cause
+Stands sys (after_done entries) line cause = ⊥
 
 -- the line says what leaves the text there
 pub record Leaves (place : Place) (line : Line) (said : Said) (next : Place) : Type 0 where
@@ -35,6 +44,13 @@ pub record Leaves (place : Place) (line : Line) (said : Said) (next : Place) : T
   pub next_is : next ≡ after place said
 
 -- nothing stands against the line, and it leaves the text there
-pub record Takes (sys : SystemParts) (place : Place) (line : Line) (next : Place) : Type 0 where
-  pub free : IsFree (Stands sys place line)
-  pub leaves : (said : Said) × Leaves place line said next
+pub record IsRead (sys : SystemParts) (place : Place) (line : Line) (next : Place) : Type 0 where
+  pub free : IsFree (ReadStands sys place line)
+  pub said : Said
+  pub leaves : Leaves place line said next
+
+-- where a line leaves the text that is taken; below `done` each line is taken, and none is read
+abbrev pub Takes : SystemParts → Place → Line → Place → Type 0
+Takes sys before_head line next = IsRead sys before_head line next
+Takes sys (among_entries entries) line next = IsRead sys (among_entries entries) line next
+Takes sys (after_done entries) line next = next ≡ after_done entries

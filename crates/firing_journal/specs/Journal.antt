@@ -5,6 +5,7 @@ use Rattle.conjunctive_compose.specs.declared.wish.Wish.{Wish}
 use Rattle.conjunctive_compose.specs.System.{SystemParts}
 use Rattle.conjunctive_compose.specs.Firing.{WishFits}
 use Rattle.firing_journal.specs.declared.journal.Entry.{Entry}
+use Rattle.firing_journal.specs.Said.{HasSmallNumbers}
 
 abbrev pub number_of : Entry → ℕ
 number_of entry = entry.number
@@ -15,6 +16,11 @@ wish_of entry = entry.wish
 -- the entry at place i has number i
 abbrev pub AreNumbered : List Entry → Type 0
 AreNumbered entries = map number_of entries ≡ range_with_len 0 (length entries)
+
+-- the entries of a journal
+pub record IsJournal (entries : List Entry) : Type 0 where
+  pub numbered : AreNumbered entries
+  pub small : All HasSmallNumbers entries
 
 -- the wishes of the entries, in their order
 abbrev pub wishes_of : List Entry → List Wish

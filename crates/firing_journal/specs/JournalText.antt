@@ -5,7 +5,7 @@ use Rattle.conjunctive_compose.specs.System.{SystemParts}
 use Rattle.strict_text.specs.Spaced.{line_text}
 use Rattle.firing_journal.specs.declared.journal.Entry.{Entry}
 use Rattle.firing_journal.specs.Journal.{AreNumbered, JournalFits}
-use Rattle.firing_journal.specs.Said.{Said, head_line, entry_line, done_line, words_for, HasNumbers}
+use Rattle.firing_journal.specs.Said.{Said, head_line, entry_line, done_line, words_for, HasSmallNumbers}
 use Rattle.firing_journal.specs.Text.{IsJournalText}
 
 -- the line that says this
@@ -18,10 +18,6 @@ entry_text entry = said_text (entry_line entry)
 -- the head, a line for each entry, and `done`
 abbrev pub journal_text : List Entry → List ℕ
 journal_text entries = said_text head_line ++ flat_map entry_text entries ++ said_text done_line
-
--- the numbers of the entry are below 2^64
-abbrev pub HasSmallNumbers : Entry → Type 0
-HasSmallNumbers entry = HasNumbers (entry_line entry)
 
 -- what is written of a journal that fits the system is a text of it for that system, whatever follows
 abbrev pub ReadBack : Type 0

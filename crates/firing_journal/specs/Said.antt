@@ -26,6 +26,10 @@ HasNumbers head_line = Unit {0}
 HasNumbers (entry_line entry) = All IsWordNumber (numbers_of entry)
 HasNumbers done_line = Unit {0}
 
+-- the numbers of the entry are below 2^64
+abbrev pub HasSmallNumbers : Entry → Type 0
+HasSmallNumbers entry = All IsWordNumber (numbers_of entry)
+
 -- the words say this, with numbers below 2^64
 pub record SaysWords (words : List (List ℕ)) (said : Said) : Type 0 where
   pub words_are : words ≡ words_for said

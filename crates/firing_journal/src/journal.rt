@@ -1,6 +1,7 @@
-ghost use Rattle.std.specs.Prelude.{◌≡◌, ◌↔◌, ◌∷◌, ◌++◌, [], length, IsTrue, OnErr, OnOk};
+ghost use Rattle.std.specs.Prelude.{◌≡◌, ◌↔◌, ◌∷◌, ◌++◌, [], length, All, IsTrue, OnErr, OnOk};
 ghost use Rattle.conjunctive_compose.specs.Firing.{WishFits};
 ghost use Rattle.firing_journal.specs.Journal.{AreNumbered, EntryFits, JournalFits};
+ghost use Rattle.firing_journal.specs.Said.{HasSmallNumbers};
 
 use conjunctive_compose::{System, Wish};
 use pair_structure::Memory;
@@ -24,13 +25,13 @@ pub struct Journal {
 impl Model for Journal {
     ghost use Rattle.std.specs.Prelude.{List};
     ghost use Rattle.firing_journal.specs.declared.journal.Entry.{Entry};
-    ghost use Rattle.firing_journal.specs.Journal.{AreNumbered};
+    ghost use Rattle.firing_journal.specs.Journal.{IsJournal};
 
     ghost Value = { List Entry };
 
     ghost view = { λ j. j.entries.items };
 
-    ghost invariant = { λ j. AreNumbered j.entries.items };
+    ghost invariant = { λ j. IsJournal j.entries.items };
 }
 
 impl Journal {
@@ -43,10 +44,11 @@ impl Journal {
         }
     }
 
-    /// The entries in their order.
+    /// The entries in their order. Each number of them may stand in a text.
     pub fn entries(&self) -> &[Entry]
         ensures entries { result.now ≡ self.now }
         ensures numbered { AreNumbered self.now }
+        ensures small { All HasSmallNumbers self.now }
     {
         &self.entries
     }
@@ -57,11 +59,8 @@ impl Journal {
         ensures unchanged { OnErr result (self.new ≡ self.old) }
     {
         let number = self.entries.len() as u64;
-        self.entries.push(Entry {
-            number,
-            caller,
-            wish,
-        })?;
+        let entry = entry_of(number, caller, wish.process, wish.arc, wish.pick);
+        self.entries.push(entry)?;
         Ok(())
     }
 
@@ -70,6 +69,18 @@ impl Journal {
         ensures { IsTrue result ↔ JournalFits system.now self.now }
     {
         self.entries().iter().all(|entry| entry_fits(system, entry))
+    }
+}
+
+/// The entry of these numbers.
+fn entry_of(number: u64, caller: u32, process: u32, arc: u32, pick: u64) -> Entry
+    ensures entry { result ≡ record { number = number; caller = caller; wish = record { process = process; arc = arc; pick = pick } } }
+    ensures small { HasSmallNumbers result }
+{
+    Entry {
+        number,
+        caller,
+        wish: Wish { process, arc, pick },
     }
 }
 

@@ -1,5 +1,5 @@
 ghost use Rattle.std.specs.Prelude.{◌≡◌, [], IfErr, IfNone, IfOk, IfSome, OnOk};
-ghost use Rattle.ctl_text.specs.Cause.{IsLowest};
+ghost use Rattle.text_cause.specs.Cause.{IsLowest};
 ghost use Rattle.strict_text.specs.Lines.{IsStrict};
 ghost use Rattle.strict_text.specs.View.{line_of};
 ghost use Rattle.firing_journal.specs.Cause.{Stands, Takes};
@@ -10,8 +10,8 @@ ghost use Rattle.firing_journal.specs.View.{IsFitting, IsKnown, place_after, sai
 use crate::Journal;
 use crate::item::{Item, is_head, item_of};
 use conjunctive_compose::{System, Wish};
-use ctl_text::TextCause;
 use strict_text::{Line, is_strict};
+use text_cause::TextCause;
 
 /// Whether the first line is the head, or its lowest cause.
 pub(crate) fn judge_head(system: &System, line: Line<'_>) -> Result<(), TextCause>

@@ -1,17 +1,19 @@
 ghost use Rattle.std.specs.Prelude.{◌≡◌, ℕ, List, [], IfErr, IfOk, MatchResult};
-ghost use Rattle.ctl_text.specs.declared.cause.TextFault.TheVariants.{Memory};
+ghost use Rattle.text_cause.specs.declared.cause.TextCause.{TextCause};
+ghost use Rattle.text_cause.specs.Answers.{IsFaultAt, IsRefusalFrom};
+ghost use Rattle.text_cause.specs.Grammar.{StandsFor};
 ghost use Rattle.strict_text.specs.Lines.{lines_of};
 ghost use Rattle.firing_journal.specs.declared.journal.Entry.{Entry};
 ghost use Rattle.firing_journal.specs.Journal.{JournalFits};
 ghost use Rattle.firing_journal.specs.Place.{among_entries};
-ghost use Rattle.firing_journal.specs.Text.{IsJournalText, IsRefusal, IsRefusalFrom, StandsFor};
+ghost use Rattle.firing_journal.specs.Text.{IsJournalText, IsRefusal, IsRefused, journals};
 
 use crate::Journal;
 use crate::judge::{judge, judge_head};
 use conjunctive_compose::System;
-use ctl_text::{TextCause, TextFault};
 use std::alloc::Global;
 use strict_text::cut_line;
+use text_cause::{TextCause, TextFault};
 
 /// The journal of which the bytes are a text for this system, or the first bad line with its lowest cause. Nothing behind the line `done`
 /// is read. One pass over the text.
@@ -19,7 +21,8 @@ pub fn read_journal(alloc: Global, system: &System, bytes: &[u8]) -> Result<Jour
     ensures text { IfOk result (IsJournalText system.now bytes.now) }
     ensures fits { IfOk result (JournalFits system.now) }
     ensures refused { IfErr result (IsRefusal system.now bytes.now) }
-    ensures only { (v : List Entry) → IsJournalText system.now bytes.now v → MatchResult result (λ j. j ≡ v) (λ fault. fault ≡ Memory) }
+    ensures only { (v : List Entry) → IsJournalText system.now bytes.now v → MatchResult result (λ j. j ≡ v) (λ fault. fault ≡ TextFault.Memory) }
+    ensures refused_only { (at : ℕ) (cause : TextCause) → IsRefused system.now bytes.now at cause → MatchResult result (λ j. ⊥) (IsFaultAt at cause) }
 {
     read_text(alloc, system, bytes)
 }
@@ -44,8 +47,8 @@ fn read_text(alloc: Global, system: &System, bytes: &[u8]) -> Result<Journal, Te
 
 /// The journal below the head.
 fn read_entries(alloc: Global, system: &System, bytes: &[u8]) -> Result<Journal, TextFault>
-    ensures text { IfOk result (StandsFor system.now (among_entries []) (lines_of bytes.now)) }
-    ensures refused { IfErr result (IsRefusalFrom system.now (among_entries []) 2 (lines_of bytes.now)) }
+    ensures text { IfOk result (StandsFor (journals system.now) (among_entries []) (lines_of bytes.now)) }
+    ensures refused { IfErr result (IsRefusalFrom (journals system.now) (among_entries []) 2 (lines_of bytes.now)) }
     ensures fits { IfOk result (JournalFits system.now) }
 {
     let mut journal = Journal::new(alloc);

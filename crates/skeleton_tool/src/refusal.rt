@@ -1,13 +1,13 @@
 ghost use Rattle.std.specs.Prelude.{◌≡◌, ◌++◌, [], OnOk};
 ghost use Rattle.skeleton_tool.specs.Reading.{IsRefusedAs};
-ghost use Rattle.skeleton_tool.specs.Refusal.{cause_word, refused_text};
+ghost use Rattle.skeleton_tool.specs.Refusal.{refused_text};
 ghost use Rattle.skeleton_tool.specs.Taking.{StopsAs};
 
 use crate::status::Status;
 use crate::stop::Stop;
-use ctl_text::{TextCause, TextFault};
 use itoa::Buffer;
 use std::alloc::AllocError;
+use text_cause::{TextCause, TextFault, cause_word};
 
 /// How a call stops at a file of this word that is not read: its first bad line is written, or memory ran out.
 pub(crate) fn refuse(word: &str, fault: TextFault, text: &mut Vec<u8>) -> Stop
@@ -41,29 +41,4 @@ fn write_refused(
     into.extend_from_slice(cause_word(cause).as_bytes())?;
     into.extend_from_slice(b"\n")?;
     Ok(())
-}
-
-/// The name of a cause, without its fields.
-fn cause_word(cause: TextCause) -> &'static str
-    ensures { result.now ≡ cause_word cause }
-{
-    match cause {
-        TextCause::NotText => "NotText",
-        TextCause::BadHead => "BadHead",
-        TextCause::Long => "Long",
-        TextCause::BadLine => "BadLine",
-        TextCause::UnknownName => "UnknownName",
-        TextCause::Twice => "Twice",
-        TextCause::SelfArc => "SelfArc",
-        TextCause::NoArc { .. } => "NoArc",
-        TextCause::TooMany { .. } => "TooMany",
-        TextCause::ClosureOver => "ClosureOver",
-        TextCause::SelfEdge => "SelfEdge",
-        TextCause::EdgeTwice => "EdgeTwice",
-        TextCause::DegreeOver { .. } => "DegreeOver",
-        TextCause::RoleMismatch => "RoleMismatch",
-        TextCause::NotAPair { .. } => "NotAPair",
-        TextCause::NotRising => "NotRising",
-        TextCause::Disagree => "Disagree",
-    }
 }

@@ -5,12 +5,12 @@ use Rattle.pair_structure.specs.Role.{RoleParts}
 use Rattle.pair_structure.specs.Structure.{IsPairStructure}
 use Rattle.pair_structure.proofs.StructureFaultLaws.{none_against}
 use Rattle.ctl_form.specs.declared.pair_spec.PairSpec.{PairSpec}
-use Rattle.ctl_text.specs.declared.cause.TextCause.{TextCause}
-use Rattle.ctl_text.specs.Cause.{IsFree}
-use Rattle.solution_text.specs.declared.line_fault.LineFault.{LineFault}
+use Rattle.text_cause.specs.declared.cause.TextCause.{TextCause}
+use Rattle.text_cause.specs.Cause.{IsFree}
+use Rattle.text_cause.specs.declared.line_fault.LineFault.{LineFault}
 use Rattle.solution_text.specs.State.{behind}
 use Rattle.solution_text.specs.Cause.{PairBlocks}
-use Rattle.solution_text.specs.Answers.{IsBadBy}
+use Rattle.text_cause.specs.Answers.{IsBadBy}
 
 none_blocks : (a b : RoleParts) (states : List (ℕ × ℕ)) (moves : List Move) → IsPairStructure a b states moves → (cause : TextCause) → PairBlocks a b states moves cause → ⊥
 none_blocks a b states moves lawful cause (fault, is, first) = none_against a b states moves lawful fault first.stands

@@ -1,4 +1,5 @@
 pub mod Blocked
+pub mod FirstFault
 pub mod ItemLaws
 pub mod Judged
 pub mod KindTexts

@@ -8,8 +8,8 @@ use Rattle.pair_structure.specs.Role.{RoleParts}
 use Rattle.pair_structure.specs.Structure.{Structure, IsPairStructure}
 use Rattle.ctl_form.specs.declared.pair_spec.PairSpec.{PairSpec}
 use Rattle.ctl_form.specs.Kind.{role_at}
-use Rattle.ctl_text.specs.declared.cause.TextCause.TheVariants.{UnknownName}
-use Rattle.ctl_text.specs.Cause.{IsFree}
+use Rattle.text_cause.specs.declared.cause.TextCause.TheVariants.{UnknownName}
+use Rattle.text_cause.specs.Cause.{IsFree}
 use Rattle.ctl_text.specs.Value.{number_in}
 use Rattle.ctl_text.proofs.Named.{contained, named_at}
 use Rattle.strict_text.specs.Lines.{Line, text_of, lines_of}
@@ -20,7 +20,8 @@ use Rattle.strict_text.proofs.LineLaws.{text_of_lines}
 use Rattle.solution_text.specs.Item.{Said, head_line, kind_line, state_line, move_line, end_line, done_line, words_for}
 use Rattle.solution_text.specs.State.{Group, before_head, among_kinds, in_kind, after_done, State, first_state, MayStand, after}
 use Rattle.solution_text.specs.Cause.{LabelBlocks, Blocks, EndsWhole}
-use Rattle.solution_text.specs.Text.{StandsFor, IsSolutionText}
+use Rattle.text_cause.specs.Grammar.{StandsFor}
+use Rattle.solution_text.specs.Text.{solutions, IsSolutionText}
 use Rattle.solution_text.specs.SolutionText.{item_text, state_text, move_text, kinds_text, solution_text, AreOver}
 use Rattle.solution_text.proofs.Judged.{blocks_stand}
 
@@ -168,7 +169,7 @@ item_before : (item : Said) (text : List ℕ) → spaced (words_for item) ++ 10 
 item_before item text = sym (append_assoc (spaced (words_for item)) (10 ∷ []) text)
 
 -- what comes of lines that stand for structures
-comes : (roles : List RoleParts) (s : State) (lines : List Line) (v : List Structure) → StandsFor roles s lines v → Comes roles s v (text_of lines)
+comes : (roles : List RoleParts) (s : State) (lines : List Line) (v : List Structure) → StandsFor (solutions roles) s lines v → Comes roles s v (text_of lines)
 comes roles s [] v h = record { more = []; v_is = h.1 ∙ sym (append-nil s.made); remains = subst (λ g. Remains roles s.left g [] []) (sym h.0) (refl, refl) }
 comes roles s (line ∷ lines) v (t, takes, more) =
     let later : Comes roles (after roles s takes.item) v (text_of lines) = subst (λ t. Comes roles t v (text_of lines)) takes.next (comes roles t lines v more) in

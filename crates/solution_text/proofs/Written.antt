@@ -12,8 +12,8 @@ use Rattle.pair_structure.specs.Role.{RoleParts}
 use Rattle.pair_structure.specs.Structure.{Structure, IsPairStructure, IsLabel, IsLawfulMove}
 use Rattle.ctl_form.specs.declared.pair_spec.PairSpec.{PairSpec}
 use Rattle.ctl_form.specs.Kind.{role_at}
-use Rattle.ctl_text.specs.declared.cause.TextCause.{TextCause}
-use Rattle.ctl_text.specs.Cause.{IsFree}
+use Rattle.text_cause.specs.declared.cause.TextCause.{TextCause}
+use Rattle.text_cause.specs.Cause.{IsFree}
 use Rattle.ctl_text.specs.FormulaText.{Names, name_at}
 use Rattle.ctl_text.specs.SoundValue.{IsNamedRole, IsNamedKind, IsSoundValue}
 use Rattle.ctl_text.specs.Value.{SpecParts}
@@ -27,7 +27,8 @@ use Rattle.solution_text.specs.Item.{Said, head_line, kind_line, state_line, mov
 use Rattle.solution_text.specs.State.{among_kinds, in_kind, State, first_state, MayStand, after}
 use Rattle.solution_text.specs.Cause.{LabelBlocks, Blocks, MaySay, EndsWhole}
 use Rattle.solution_text.specs.Laws.{IsNumbered}
-use Rattle.solution_text.specs.Text.{StandsFor, IsSolutionText}
+use Rattle.text_cause.specs.Grammar.{StandsFor}
+use Rattle.solution_text.specs.Text.{solutions, IsSolutionText}
 use Rattle.solution_text.specs.SolutionText.{item_text, state_text, move_text, kind_text, kinds_text, solution_text, AreOver}
 use Rattle.solution_text.proofs.Blocked.{pair_free}
 use Rattle.solution_text.proofs.Judged.{said_takes}
@@ -61,7 +62,7 @@ item_words done_line h = word_of_bytes (codes "done") refl
 
 -- a written line is taken, if nothing stands against what it says
 line_stands : (roles : List RoleParts) (s : State) (item : Said) (rest : List ℕ) (v : List Structure) → IsSpelled item → MayStand s.group s.left item → IsFree (Blocks s item) → EndsWhole item s.group
-    → StandsFor roles (after roles s item) (lines_of rest) v → StandsFor roles s (lines_of (item_text item ++ rest)) v
+    → StandsFor (solutions roles) (after roles s item) (lines_of rest) v → StandsFor (solutions roles) s (lines_of (item_text item ++ rest)) v
 line_stands roles s item rest v spelled may free whole more =
     let words = item_words item spelled in
     let line : Line = record { bytes = spaced (words_for item); is_ended = true } in
@@ -84,7 +85,7 @@ label_free a b label is cause (inl h) = use_free a.locals (name_at a.locals labe
 label_free a b label is cause (inr h) = use_free b.locals (name_at b.locals label.1) (local_there b.locals label.1 is.1) cause h
 
 states_stand : (roles : List RoleParts) (made : List Structure) (left : List PairSpec) (a b : RoleParts) (states back : List (ℕ × ℕ)) (rest : List ℕ) (v : List Structure) → IsNamedRole a → IsNamedRole b → All (IsLabel a b) back
-    → StandsFor roles (Open made left a b (states ++ back) []) (lines_of rest) v → StandsFor roles (Open made left a b states []) (lines_of (flat_map (state_text a.locals b.locals) back ++ rest)) v
+    → StandsFor (solutions roles) (Open made left a b (states ++ back) []) (lines_of rest) v → StandsFor (solutions roles) (Open made left a b states []) (lines_of (flat_map (state_text a.locals b.locals) back ++ rest)) v
 states_stand roles made left a b states [] rest v role_a role_b labels more = rw (append-nil states) at more
 states_stand roles made left a b states (label ∷ back) rest v role_a role_b labels more =
     let is : IsLabel a b label = labels 0 label (omega arith) in
@@ -92,15 +93,15 @@ states_stand roles made left a b states (label ∷ back) rest v role_a role_b la
     let later = states_stand roles made left a b (states ++ label ∷ []) back rest v role_a role_b (λ k d lt. labels (suc k) d (omega arith)) (rw (sym along) at more) in
     let p = number_again a.locals label.0 role_a.role.names_differ is.0 in
     let q = number_again b.locals label.1 role_b.role.names_differ is.1 in
-    subst (λ text. StandsFor roles (Open made left a b states []) (lines_of text) v) (sym (append_assoc (state_text a.locals b.locals label) (flat_map (state_text a.locals b.locals) back) rest))
+    subst (λ text. StandsFor (solutions roles) (Open made left a b states []) (lines_of text) v) (sym (append_assoc (state_text a.locals b.locals label) (flat_map (state_text a.locals b.locals) back) rest))
     (line_stands roles (Open made left a b states []) (state_line (name_at a.locals label.0) (name_at b.locals label.1)) (flat_map (state_text a.locals b.locals) back ++ rest) v (named_local a.locals label.0 role_a.locals is.0, named_local b.locals label.1 role_b.locals is.1) refl (record { free = label_free a b label is }) tt
-    (subst (λ x. StandsFor roles (Open made left a b (states ++ x ∷ []) []) (lines_of (flat_map (state_text a.locals b.locals) back ++ rest)) v) (pair_same label.0 label.1 _ _ (sym p) (sym q)) later))
+    (subst (λ x. StandsFor (solutions roles) (Open made left a b (states ++ x ∷ []) []) (lines_of (flat_map (state_text a.locals b.locals) back ++ rest)) v) (pair_same label.0 label.1 _ _ (sym p) (sym q)) later))
   where
     pair_same : (m n k l : ℕ) → m ≡ k → n ≡ l → ◌≡◌ {A = ℕ × ℕ} (m, n) (k, l)
     pair_same m n k l e f = rw (e, f) refl
 
 moves_stand : (roles : List RoleParts) (made : List Structure) (left : List PairSpec) (a b : RoleParts) (states : List (ℕ × ℕ)) (moves back : List Move) (rest : List ℕ) (v : List Structure) → length states ≤ 2 ^ 64 → All (IsLawfulMove a b states) back
-    → StandsFor roles (Open made left a b states (moves ++ back)) (lines_of rest) v → StandsFor roles (Open made left a b states moves) (lines_of (flat_map move_text back ++ rest)) v
+    → StandsFor (solutions roles) (Open made left a b states (moves ++ back)) (lines_of rest) v → StandsFor (solutions roles) (Open made left a b states moves) (lines_of (flat_map move_text back ++ rest)) v
 moves_stand roles made left a b states moves [] rest v few lawful more = rw (append-nil moves) at more
 moves_stand roles made left a b states moves (move ∷ back) rest v few lawful more =
     let is : IsLawfulMove a b states move = lawful 0 move (omega arith) in
@@ -108,13 +109,13 @@ moves_stand roles made left a b states moves (move ∷ back) rest v few lawful m
     let to = is.to in
     let along : (moves ++ move ∷ []) ++ back ≡ moves ++ move ∷ back = append_assoc moves (move ∷ []) back in
     let later = moves_stand roles made left a b states (moves ++ move ∷ []) back rest v few (λ k d lt. lawful (suc k) d (omega arith)) (rw (sym along) at more) in
-    subst (λ text. StandsFor roles (Open made left a b states moves) (lines_of text) v) (sym (append_assoc (move_text move) (flat_map move_text back) rest))
+    subst (λ text. StandsFor (solutions roles) (Open made left a b states moves) (lines_of text) v) (sym (append_assoc (move_text move) (flat_map move_text back) rest))
     (line_stands roles (Open made left a b states moves) (move_line move) (flat_map move_text back ++ rest) v (record { from = omega arith; to = omega arith }) tt (record { free = λ cause h. h }) tt later)
 
 kind_stands : (roles : List RoleParts) (made : List Structure) (kind : PairSpec) (left : List PairSpec) (m : Structure) (rest : List ℕ) (v : List Structure) → IsName kind.name → IsNamedRole (role_at roles kind.role_a) → IsNamedRole (role_at roles kind.role_b) → IsNumbered m
     → IsPairStructure (role_at roles kind.role_a) (role_at roles kind.role_b) m.states m.moves
-    → StandsFor roles (record { made = made ++ m ∷ []; left = left; group = among_kinds }) (lines_of rest) v
-    → StandsFor roles (record { made = made; left = kind ∷ left; group = among_kinds }) (lines_of (kind_text kind.name (role_at roles kind.role_a) (role_at roles kind.role_b) m ++ rest)) v
+    → StandsFor (solutions roles) (record { made = made ++ m ∷ []; left = left; group = among_kinds }) (lines_of rest) v
+    → StandsFor (solutions roles) (record { made = made; left = kind ∷ left; group = among_kinds }) (lines_of (kind_text kind.name (role_at roles kind.role_a) (role_at roles kind.role_b) m ++ rest)) v
 kind_stands roles made kind left m rest v name role_a role_b few whole more =
     let a = role_at roles kind.role_a in
     let b = role_at roles kind.role_b in
@@ -122,14 +123,14 @@ kind_stands roles made kind left m rest v name role_a role_b few whole more =
     let moved = moves_stand roles made left a b m.states [] m.moves (item_text end_line ++ rest) v few whole.lawful ended in
     let placed = states_stand roles made left a b [] m.states (flat_map move_text m.moves ++ (item_text end_line ++ rest)) v role_a role_b whole.labels moved in
     let opened = line_stands roles (record { made = made; left = kind ∷ left; group = among_kinds }) (kind_line kind.name) (flat_map (state_text a.locals b.locals) m.states ++ (flat_map move_text m.moves ++ (item_text end_line ++ rest))) v name tt (record { free = λ cause h. h.1 refl }) tt placed in
-    subst (λ text. StandsFor roles (record { made = made; left = kind ∷ left; group = among_kinds }) (lines_of text) v) (opened_text (item_text (kind_line kind.name)) (flat_map (state_text a.locals b.locals) m.states) (flat_map move_text m.moves) (item_text end_line) rest) opened
+    subst (λ text. StandsFor (solutions roles) (record { made = made; left = kind ∷ left; group = among_kinds }) (lines_of text) v) (opened_text (item_text (kind_line kind.name)) (flat_map (state_text a.locals b.locals) m.states) (flat_map move_text m.moves) (item_text end_line) rest) opened
   where
     opened_text : (k ss ms e rest : List ℕ) → k ++ (ss ++ (ms ++ (e ++ rest))) ≡ (k ++ ((ss ++ ms) ++ e)) ++ rest
     opened_text k ss ms e rest = simp append_assoc refl
 
 kinds_stand : (roles : List RoleParts) (made : List Structure) (kinds : List PairSpec) (structures : List Structure) (rest : List ℕ) (v : List Structure) → All IsNamedRole roles → All (IsNamedKind roles) kinds → AreOver roles kinds structures → All IsNumbered structures
-    → StandsFor roles (record { made = made ++ structures; left = []; group = among_kinds }) (lines_of rest) v
-    → StandsFor roles (record { made = made; left = kinds; group = among_kinds }) (lines_of (kinds_text roles kinds structures ++ rest)) v
+    → StandsFor (solutions roles) (record { made = made ++ structures; left = []; group = among_kinds }) (lines_of rest) v
+    → StandsFor (solutions roles) (record { made = made; left = kinds; group = among_kinds }) (lines_of (kinds_text roles kinds structures ++ rest)) v
 kinds_stand roles made [] [] rest v named kind_named over few more = rw (append-nil made) at more
 kinds_stand roles made [] (m ∷ structures) rest v named kind_named over few more = absurd over
 kinds_stand roles made (kind ∷ kinds) [] rest v named kind_named over few more = absurd over
@@ -138,12 +139,12 @@ kinds_stand roles made (kind ∷ kinds) (m ∷ structures) rest v named kind_nam
     let few_states : IsNumbered m = few 0 m (omega arith) in
     let along : (made ++ m ∷ []) ++ structures ≡ made ++ m ∷ structures = append_assoc made (m ∷ []) structures in
     let later = kinds_stand roles (made ++ m ∷ []) kinds structures rest v named (λ n d lt. kind_named (suc n) d (omega arith)) over.1 (λ n d lt. few (suc n) d (omega arith)) (rw (sym along) at more) in
-    subst (λ text. StandsFor roles (record { made = made; left = kind ∷ kinds; group = among_kinds }) (lines_of text) v) (sym (append_assoc (kind_text kind.name (role_at roles kind.role_a) (role_at roles kind.role_b) m) (kinds_text roles kinds structures) rest))
+    subst (λ text. StandsFor (solutions roles) (record { made = made; left = kind ∷ kinds; group = among_kinds }) (lines_of text) v) (sym (append_assoc (kind_text kind.name (role_at roles kind.role_a) (role_at roles kind.role_b) m) (kinds_text roles kinds structures) rest))
     (kind_stands roles made kind kinds m (kinds_text roles kinds structures ++ rest) v k.name (role_named roles kind.role_a named k.role_a) (role_named roles kind.role_b named k.role_b) few_states over.0 later)
 
 -- the one text of structures over the roles of their kinds is a text of them
 pub written_is_text : (v : SpecParts) (structures : List Structure) → IsSoundValue v → AreOver v.roles v.kinds structures → All IsNumbered structures → IsSolutionText v.roles v.kinds (solution_text v.roles v.kinds structures) structures
 written_is_text v structures sound over few =
     let done = line_stands v.roles (record { made = structures; left = []; group = among_kinds }) done_line [] structures tt tt (record { free = λ cause h. h }) tt (refl, refl) in
-    let kinds = kinds_stand v.roles [] v.kinds structures (item_text done_line) structures sound.roles sound.kinds over few (subst (λ text. StandsFor v.roles (record { made = structures; left = []; group = among_kinds }) (lines_of text) structures) (append-nil (item_text done_line)) done) in
+    let kinds = kinds_stand v.roles [] v.kinds structures (item_text done_line) structures sound.roles sound.kinds over few (subst (λ text. StandsFor (solutions v.roles) (record { made = structures; left = []; group = among_kinds }) (lines_of text) structures) (append-nil (item_text done_line)) done) in
     line_stands v.roles (first_state v.kinds) head_line (kinds_text v.roles v.kinds structures ++ item_text done_line) structures tt tt (record { free = λ cause h. h }) tt kinds

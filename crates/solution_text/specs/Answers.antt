@@ -2,16 +2,13 @@
 use Rattle.std.specs.Prelude.{ℕ, ◌≡◌, ◌<◌, List}
 use Rattle.pair_structure.specs.Role.{RoleParts}
 use Rattle.ctl_form.specs.declared.pair_spec.PairSpec.{PairSpec}
-use Rattle.ctl_text.specs.declared.cause.TextCause.{TextCause}
-use Rattle.ctl_text.specs.declared.cause.TextFault.{TextFault}
-use Rattle.ctl_text.specs.declared.cause.TextFault.TheVariants.{At, Memory}
-use Rattle.ctl_text.specs.Cause.{IsLowest, IsFree}
-use Rattle.solution_text.specs.declared.line_fault.LineFault.{LineFault}
-use Rattle.solution_text.specs.declared.line_fault.LineFault.TheVariants.{Bad, Memory as NoMemory}
+use Rattle.text_cause.specs.declared.cause.TextFault.{TextFault}
+use Rattle.text_cause.specs.Cause.{IsFree}
+use Rattle.text_cause.specs.Answers.{IsRefusal as IsRefusalBy}
 use Rattle.solution_text.specs.Item.{Said}
-use Rattle.solution_text.specs.State.{State, after}
+use Rattle.solution_text.specs.State.{State, after, first_state}
 use Rattle.solution_text.specs.Cause.{Blocks, EndsWhole}
-use Rattle.solution_text.specs.Text.{IsRefused}
+use Rattle.solution_text.specs.Text.{solutions}
 
 -- both roles of the kind are among so many
 pub record HasRoles (count : ℕ) (kind : PairSpec) : Type 0 where
@@ -24,12 +21,6 @@ pub record IsTakenAs (roles : List RoleParts) (s : State) (item : Said) (t : Sta
   pub whole : EndsWhole item s.group
   pub next : t ≡ after roles s item
 
--- want of memory, or the lowest cause that stands
-abbrev pub IsBadBy : (TextCause → Type 0) → LineFault → Type 0
-IsBadBy against NoMemory = Unit {0}
-IsBadBy against (Bad cause) = IsLowest against cause
-
 -- want of memory, or the first bad line and its lowest cause
 abbrev pub IsRefusal : List RoleParts → List PairSpec → List ℕ → TextFault → Type 0
-IsRefusal roles kinds bytes Memory = Unit {0}
-IsRefusal roles kinds bytes (At line what) = IsRefused roles kinds bytes line what
+IsRefusal roles kinds bytes fault = IsRefusalBy (solutions roles) (first_state kinds) bytes fault

@@ -6,9 +6,10 @@ use Rattle.pair_structure.specs.Role.{RoleParts}
 use Rattle.pair_structure.specs.Structure.{IsPairStructure}
 use Rattle.pair_structure.specs.StructureFault.{IsFirstStructureFault}
 use Rattle.ctl_form.specs.declared.pair_spec.PairSpec.{PairSpec}
-use Rattle.ctl_text.specs.declared.cause.TextCause.{TextCause}
-use Rattle.ctl_text.specs.declared.cause.TextCause.TheVariants.{NotText, BadHead, BadLine, UnknownName, NotAPair}
-use Rattle.ctl_text.specs.Cause.{UseStands, IsFree}
+use Rattle.text_cause.specs.declared.cause.TextCause.{TextCause}
+use Rattle.text_cause.specs.declared.cause.TextCause.TheVariants.{UnknownName, NotAPair}
+use Rattle.text_cause.specs.Cause.{IsFree, LineStands}
+use Rattle.ctl_text.specs.Cause.{UseStands}
 use Rattle.strict_text.specs.Lines.{Line, IsStrict}
 use Rattle.strict_text.specs.Words.{words_of}
 use Rattle.solution_text.specs.Item.{Said, head_line, kind_line, state_line, end_line, words_for, Says}
@@ -54,13 +55,9 @@ pub record MaySay (s : State) (line : Line) (item : Said) : Type 0 where
 abbrev pub LacksHead : Group → List ℕ → Type 0
 LacksHead group line = (group ≡ before_head) × (words_of line ≢ words_for head_line)
 
--- what stands against a line, below this state: one row for each cause, and the rows of what it says
+-- what stands against a line, below this state
 abbrev pub Stands : State → Line → TextCause → Type 0
-Stands s line cause =
-    ((cause ≡ NotText) × (IsStrict line.bytes → ⊥))
-    ⊎ (((cause ≡ BadHead) × LacksHead s.group line.bytes)
-    ⊎ (((cause ≡ BadLine) × ((item : Said) → MaySay s line item → ⊥))
-    ⊎ ((item : Said) × MaySay s line item × Blocks s item cause)))
+Stands s line = LineStands (IsStrict line.bytes → ⊥) (LacksHead s.group line.bytes) (MaySay s line) (Blocks s)
 
 -- an open group is whole: a kind's states and moves are a structure over its roles
 abbrev pub IsWhole : Group → Type 0

@@ -4,7 +4,6 @@
 mod failing;
 mod item;
 mod laws;
-mod line_fault;
 mod read;
 mod reader;
 mod solution;

@@ -1,24 +1,24 @@
 ghost use Rattle.std.specs.Prelude.{◌≡◌, ◌↔◌, ◌<◌, ◌≤◌, IsTrue, IfOk, IfErr, IfSome, IfNone, All, Contains, codes, length, position};
 ghost use Rattle.std.specs.Str.{bytes_eq};
 ghost use Rattle.pair_structure.specs.Structure.{IsPairStructure};
-ghost use Rattle.ctl_text.specs.Cause.{IsFree};
+ghost use Rattle.text_cause.specs.Cause.{IsFree};
 ghost use Rattle.ctl_text.specs.Value.{number_in};
 ghost use Rattle.strict_text.specs.View.{line_of};
 ghost use Rattle.strict_text.specs.Words.{words_of};
 ghost use Rattle.solution_text.specs.Item.{Said, head_line, words_for};
 ghost use Rattle.solution_text.specs.State.{MayStand, opened, behind, with_state, with_move, with_ended};
 ghost use Rattle.solution_text.specs.Cause.{LacksHead, LabelBlocks, PairBlocks, KindBlocks, StateBlocks, EndBlocks, IsWhole, Blocks, Stands, MaySay, Takes};
-ghost use Rattle.solution_text.specs.Answers.{HasRoles, IsTakenAs, IsBadBy};
+ghost use Rattle.text_cause.specs.Answers.{IsBadBy};
+ghost use Rattle.solution_text.specs.Answers.{HasRoles, IsTakenAs};
 ghost use Rattle.solution_text.specs.View.{group_of, state_of, said};
 
 use crate::item::{Item, said_by};
-use crate::line_fault::LineFault;
 use crate::reader::{Place, Reader, may_stand};
 use ctl_form::PairSpec;
-use ctl_text::TextCause;
 use pair_structure::{Move, Name, PairStructure, Role, StructureFault};
 use std::alloc::{AllocError, Global};
 use strict_text::{Line, is_strict};
+use text_cause::{LineFault, TextCause};
 
 /// What stands below the line. Linear in the line, and at the end of a kind in its states and moves.
 pub(crate) fn take_line<'a>(

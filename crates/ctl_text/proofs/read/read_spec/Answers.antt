@@ -1,6 +1,6 @@
 use Rattle.std.proofs.Common.{ℕ, ◌≡◌, List, refl, ◌∙◌}
-use Rattle.ctl_text.specs.declared.cause.TextFault.{TextFault}
-use Rattle.ctl_text.specs.declared.cause.TextFault.TheVariants.{At, Memory}
+use Rattle.text_cause.specs.declared.cause.TextFault.{TextFault}
+use Rattle.text_cause.specs.declared.cause.TextFault.TheVariants.{At, Memory}
 use Rattle.ctl_text.specs.Lines.{lines_of}
 use Rattle.ctl_text.specs.Made.{value_of}
 use Rattle.ctl_text.specs.State.{first_state}

@@ -1,5 +1,5 @@
 use Rattle.std.proofs.Common.{ℕ, ◌+◌, ◌≤◌, length}
-use Rattle.ctl_text.specs.declared.cause.TextCause.{TextCause}
+use Rattle.text_cause.specs.declared.cause.TextCause.{TextCause}
 use Rattle.ctl_text.specs.Lines.{lines_of}
 use Rattle.ctl_text.specs.Sound.{IsSoundState}
 use Rattle.ctl_text.specs.Value.{SpecParts}

@@ -1,5 +1,7 @@
-use pair_structure::{Memory, StructureFault};
-use std::alloc::AllocError;
+ghost use Rattle.std.specs.Prelude.{◌≡◌};
+ghost use Rattle.text_cause.specs.Cause.{cause_word};
+
+use pair_structure::StructureFault;
 use thiserror::Error;
 
 /// Why a line of a text is refused. Of several causes of one line the first in this order is named.
@@ -69,31 +71,27 @@ pub enum TextFault {
     Memory,
 }
 
-/// Why a line is not taken.
-#[derive(Clone, Copy, Debug, PartialEq, Eq)]
-pub(crate) enum LineFault {
-    Bad(TextCause),
-    Memory,
-}
-
-impl From<AllocError> for LineFault {
-    ghost use Rattle.ctl_text.specs.declared.cause.LineFault.TheVariants.{Memory};
-    ghost use Rattle.std.specs.Prelude.{◌≡◌};
-
-    ghost from_gives = { λ _ e. e ≡ Memory };
-
-    fn from(_e: AllocError) -> LineFault {
-        LineFault::Memory
-    }
-}
-
-impl From<Memory> for LineFault {
-    ghost use Rattle.ctl_text.specs.declared.cause.LineFault.TheVariants.{Memory};
-    ghost use Rattle.std.specs.Prelude.{◌≡◌};
-
-    ghost from_gives = { λ _ e. e ≡ Memory };
-
-    fn from(_fault: Memory) -> LineFault {
-        LineFault::Memory
+/// The name of a cause, without its fields.
+pub fn cause_word(cause: TextCause) -> &'static str
+    ensures { result.now ≡ cause_word cause }
+{
+    match cause {
+        TextCause::NotText => "NotText",
+        TextCause::BadHead => "BadHead",
+        TextCause::Long => "Long",
+        TextCause::BadLine => "BadLine",
+        TextCause::UnknownName => "UnknownName",
+        TextCause::Twice => "Twice",
+        TextCause::SelfArc => "SelfArc",
+        TextCause::NoArc { .. } => "NoArc",
+        TextCause::TooMany { .. } => "TooMany",
+        TextCause::ClosureOver => "ClosureOver",
+        TextCause::SelfEdge => "SelfEdge",
+        TextCause::EdgeTwice => "EdgeTwice",
+        TextCause::DegreeOver { .. } => "DegreeOver",
+        TextCause::RoleMismatch => "RoleMismatch",
+        TextCause::NotAPair { .. } => "NotAPair",
+        TextCause::NotRising => "NotRising",
+        TextCause::Disagree => "Disagree",
     }
 }

@@ -1,0 +1,4 @@
+pub mod Lowest
+pub mod Reading
+pub mod Rows
+pub mod TextLaws
