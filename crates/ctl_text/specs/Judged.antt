@@ -5,9 +5,9 @@ use Rattle.ctl_text.specs.declared.cause.TextCause.{TextCause}
 use Rattle.ctl_text.specs.declared.cause.TextCause.TheVariants.{BadHead, Long, BadLine, UnknownName}
 use Rattle.ctl_text.specs.declared.cause.LineFault.{LineFault}
 use Rattle.ctl_text.specs.declared.cause.LineFault.TheVariants.{Bad, Memory}
-use Rattle.ctl_text.specs.Long.{IsLong}
+use Rattle.formula_text.specs.Long.{IsLong}
 use Rattle.ctl_text.specs.Required.{SpellsOver, AreKnownOver, IsUnspelled}
-use Rattle.ctl_text.specs.Sign.{Names}
+use Rattle.formula_text.specs.Sign.{Names}
 use Rattle.ctl_text.specs.Item.{Said, require_line, Says}
 use Rattle.ctl_text.specs.State.{State, Group, before_head, MayStand}
 use Rattle.ctl_text.specs.Text.{EndOfText}

@@ -1,6 +1,7 @@
 ghost use Rattle.std.specs.Prelude.{◌≡◌, ◌↔◌, ◌<◌, ◌≤◌, ℕ, IsTrue, IfSome, IfNone, Contains, length};
 ghost use Rattle.ctl_text.specs.Value.{role_names, kind_names, process_names, number_in, process_at, kind_at};
-ghost use Rattle.ctl_text.specs.Cause.{IsLowest, IsFree, NameStands, KindStands, ProcessStands, JoinStands, EdgeStands, IsCrowded, IsFirstCrowded, AreOfKind};
+ghost use Rattle.ctl_text.specs.Cause.{IsLowest, IsFree, IsCrowded, IsFirstCrowded, AreOfKind};
+ghost use Rattle.ctl_text.specs.LineCause.{NameStands, KindStands, ProcessStands, JoinStands, EdgeStands};
 
 use crate::TextCause;
 use crate::edges::Edges;
