@@ -1,13 +1,13 @@
 -- What judging and taking a line gives.
 use Rattle.std.specs.Prelude.{ℕ, ◌≡◌, ◌∷◌, List, ◌⊎◌, codes}
 use Rattle.ctl_form.specs.Form.{Form}
-use Rattle.text_cause.specs.declared.cause.TextCause.{TextCause}
-use Rattle.text_cause.specs.declared.cause.TextCause.TheVariants.{BadHead, Long, BadLine, UnknownName}
-use Rattle.text_cause.specs.declared.line_fault.LineFault.{LineFault}
-use Rattle.text_cause.specs.declared.line_fault.LineFault.TheVariants.{Bad, Memory}
-use Rattle.ctl_text.specs.Long.{IsLong}
+use Rattle.ctl_text.specs.declared.cause.TextCause.{TextCause}
+use Rattle.ctl_text.specs.declared.cause.TextCause.TheVariants.{BadHead, Long, BadLine, UnknownName}
+use Rattle.ctl_text.specs.declared.cause.LineFault.{LineFault}
+use Rattle.ctl_text.specs.declared.cause.LineFault.TheVariants.{Bad, Memory}
+use Rattle.formula_text.specs.Long.{IsLong}
 use Rattle.ctl_text.specs.Required.{SpellsOver, AreKnownOver, IsUnspelled}
-use Rattle.ctl_text.specs.Sign.{Names}
+use Rattle.formula_text.specs.Sign.{Names}
 use Rattle.ctl_text.specs.Item.{Said, require_line, Says}
 use Rattle.ctl_text.specs.State.{State, Group, before_head, MayStand}
 use Rattle.ctl_text.specs.Text.{EndOfText}

@@ -1,9 +1,10 @@
-ghost use Rattle.std.specs.Prelude.{◌≡◌, ℕ, IfOk, IfErr, MatchResult, length, map, ◌<◌, ◌≤◌, ◌^◌};
+ghost use Rattle.std.specs.Prelude.{◌≡◌, ℕ, IfOk, IfErr, MatchResult, All, length, map, ◌<◌, ◌≤◌, ◌^◌};
 ghost use Rattle.interconnection.specs.Graph.{degree_of};
 ghost use Rattle.interconnection.specs.Network.{AreLawful};
 ghost use Rattle.ctl_text.specs.Value.{SpecParts, kind_ends};
 ghost use Rattle.ctl_text.specs.Text.{IsSpecText, Gives};
 ghost use Rattle.ctl_text.specs.Judged.{IsBadEnd};
+ghost use Rattle.ctl_text.specs.SoundValue.{IsOverRoles};
 ghost use Rattle.ctl_text.specs.Sound.{IsSoundState};
 ghost use Rattle.ctl_text.specs.View.{state_of};
 ghost use Rattle.ctl_text.specs.Answers.{IsRefusal};
@@ -33,6 +34,7 @@ pub fn read_spec(alloc: Global, bytes: &[u8]) -> Result<Spec, TextFault>
     ensures text { IfOk result (λ spec. IsSpecText bytes.now spec) }
     ensures refused { IfErr result (IsRefusal bytes.now) }
     ensures only { (v : SpecParts) → IsSpecText bytes.now v → MatchResult result (λ spec. spec ≡ v) (λ fault. fault ≡ TextFault.Memory) }
+    ensures roles { IfOk result (λ spec. All (IsOverRoles (length spec.roles)) spec.kinds) }
 {
     match read_text(alloc, bytes) {
         Ok(Made { network, kinds }) => Ok(Spec::of(network, kinds)),

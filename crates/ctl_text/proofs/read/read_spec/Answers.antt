@@ -8,7 +8,7 @@ use Rattle.ctl_text.specs.Value.{SpecParts}
 use Rattle.ctl_text.specs.Text.{IsSpecText}
 use Rattle.ctl_text.specs.Answers.{IsRefusal}
 use Rattle.ctl_text.proofs.TextLaws.{stands_once, never_both}
-use Rattle.ctl_text.proofs.ValueKept.{text_sound}
+use Rattle.ctl_text.proofs.ValueKept.{text_sound, kinds_over}
 use Rattle.ctl_text.proofs.read.read_spec.Goals as goal
 
 -- bytes that are a text are refused only for want of memory
@@ -24,3 +24,6 @@ returns-in-Ok-clause-only c = λ v text. c.of.ensures ∙ stands_once first_stat
 
 pub returns-in-Err-clause-only : goal.returns-in-Err-clause-only
 returns-in-Err-clause-only c = λ v text. only_memory c.args.bytes.now c.in-Err.fault c.in-Err.ensures.refused v text
+
+pub returns-in-Ok-clause-roles : goal.returns-in-Ok-clause-roles
+returns-in-Ok-clause-roles c = rw c.of.ensures (kinds_over (value_of c.in-Ok.field-0) (text_sound c.args.bytes.now (value_of c.in-Ok.field-0) c.in-Ok.ensures.text))
