@@ -5,18 +5,20 @@ use Rattle.ctl_form.specs.Form.{Form}
 use Rattle.ctl_form.specs.Kind.{role_at}
 use Rattle.ctl_text.specs.Required.{tokens_in, AreKnownOver, SpellsOver, IsUnspelled}
 use Rattle.formula_text.specs.Sign.{Names}
-use Rattle.ctl_text.specs.declared.cause.TextCause.{TextCause}
-use Rattle.ctl_text.specs.declared.cause.TextCause.TheVariants.{UnknownName}
+use Rattle.text_cause.specs.declared.cause.TextCause.{TextCause}
+use Rattle.text_cause.specs.declared.cause.TextCause.TheVariants.{UnknownName}
 use Rattle.formula_text.specs.declared.formula_fault.FormulaFault.TheVariants.{Unknown}
 use Rattle.formula_text.specs.Long.{IsLong}
 use Rattle.formula_text.specs.Tree.{FaultStands}
 use Rattle.ctl_text.specs.Item.{Said, require_line, end_line}
 use Rattle.ctl_text.specs.Value.{SpecParts}
 use Rattle.ctl_text.specs.State.{State, in_kind}
-use Rattle.ctl_text.specs.Cause.{IsLowest, Blocks, MaySay, WordsStand, cause_no}
-use Rattle.ctl_text.specs.Judged.{IsBadBy, IsClauseOf, IsSpelledOver, SpellingStands}
-use Rattle.ctl_text.specs.declared.cause.LineFault.{LineFault}
-use Rattle.ctl_text.specs.declared.cause.LineFault.TheVariants.{Bad, Memory}
+use Rattle.text_cause.specs.Cause.{IsLowest, cause_no}
+use Rattle.ctl_text.specs.Cause.{Blocks, MaySay, WordsStand}
+use Rattle.text_cause.specs.Answers.{IsBadBy}
+use Rattle.ctl_text.specs.Judged.{IsClauseOf, IsSpelledOver, SpellingStands}
+use Rattle.text_cause.specs.declared.line_fault.LineFault.{LineFault}
+use Rattle.text_cause.specs.declared.line_fault.LineFault.TheVariants.{Bad, Memory}
 use Rattle.ctl_text.proofs.ByCause.{line_of_cause}
 use Rattle.ctl_text.proofs.Judged.{words_free}
 

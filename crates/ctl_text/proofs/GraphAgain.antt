@@ -12,7 +12,7 @@ use Rattle.interconnection.specs.declared.parts.Process.{Process}
 use Rattle.interconnection.specs.declared.parts.Edge.{Edge}
 use Rattle.interconnection.specs.Graph.{joins, degree_of, JoinSame}
 use Rattle.interconnection.specs.Network.{AreLawful}
-use Rattle.ctl_text.specs.declared.cause.TextCause.{TextCause}
+use Rattle.text_cause.specs.declared.cause.TextCause.{TextCause}
 use Rattle.ctl_text.specs.Cause.{AreOfKind}
 use Rattle.ctl_text.specs.LineCause.{ProcessStands, JoinStands, EdgeStands}
 use Rattle.ctl_text.specs.Item.{head_line, done_line}

@@ -10,8 +10,8 @@ use Rattle.pair_structure.specs.declared.side.LocalArc.{LocalArc}
 use Rattle.pair_structure.specs.Role.{RoleParts, JoinsTwo, AreLawful, HasArcFrom}
 use Rattle.ctl_form.specs.declared.pair_spec.PairSpec.{PairSpec}
 use Rattle.interconnection.specs.declared.parts.Process.{Process}
-use Rattle.ctl_text.specs.declared.cause.TextCause.TheVariants.{UnknownName, Twice, SelfArc, NoArc, TooMany}
-use Rattle.ctl_text.specs.Cause.{IsFree}
+use Rattle.text_cause.specs.declared.cause.TextCause.TheVariants.{UnknownName, Twice, SelfArc, NoArc, TooMany}
+use Rattle.text_cause.specs.Cause.{IsFree}
 use Rattle.ctl_text.specs.LineCause.{NameStands, ArcStands, KindStands, ProcessStands, EdgeStands, RoleEndStands}
 use Rattle.ctl_text.specs.Value.{SpecParts, number_in, role_names, kind_names, kind_ends, process_names}
 use Rattle.ctl_text.specs.Sound.{AreLocals, AreArcs, IsSoundState}

@@ -15,7 +15,6 @@ pub mod KindsAgain
 pub mod LineLaws
 pub mod LinesAgain
 pub mod LinesTaken
-pub mod Lowest
 pub mod NameBytes
 pub mod Named
 pub mod Options

@@ -5,7 +5,8 @@ use Rattle.ctl_form.specs.declared.pair_spec.PairSpec.{PairSpec}
 use Rattle.ctl_form.specs.Form.{Form}
 use Rattle.ctl_form.specs.Kind.{role_at}
 use Rattle.formula_text.specs.Canonical.{AreNames}
-use Rattle.ctl_text.specs.Cause.{IsFree, Takes}
+use Rattle.text_cause.specs.Cause.{IsFree}
+use Rattle.ctl_text.specs.Cause.{Takes}
 use Rattle.ctl_text.specs.LineCause.{LineBlocks}
 use Rattle.formula_text.specs.FormulaText.{Names, formula_text}
 use Rattle.ctl_text.specs.Item.{Said, require_line, words_for, IsSpelled}
@@ -14,7 +15,8 @@ use Rattle.ctl_text.specs.Lines.{lines_of, words_of}
 use Rattle.ctl_text.specs.SoundValue.{IsReadable}
 use Rattle.ctl_text.specs.SpecText.{ended, line_for, require_text}
 use Rattle.ctl_text.specs.State.{State, in_kind, MayStand, after}
-use Rattle.ctl_text.specs.Text.{Gives, StandsFor}
+use Rattle.text_cause.specs.Grammar.{StandsFor}
+use Rattle.ctl_text.specs.Text.{Gives, specifications}
 use Rattle.formula_text.specs.Token.{tokens_of}
 use Rattle.ctl_text.specs.Value.{SpecParts}
 use Rattle.formula_text.proofs.Canonical.{canonical_is_formula}
@@ -33,10 +35,10 @@ goes_further s t u [] ys first then = subst (λ t. Goes t ys u) first then
 goes_further s t u (x ∷ xs) ys (plain, (m, (takes, first))) then = (plain, (m, (takes, goes_further m t u xs ys first then)))
 
 -- lines that are taken stand for the value that the last state gives
-pub goes_stand : (s t : State) (lines : List (List ℕ)) (v : SpecParts) → Goes s lines t → Gives t v → StandsFor s (lines_of (flat_map ended lines)) v
+pub goes_stand : (s t : State) (lines : List (List ℕ)) (v : SpecParts) → Goes s lines t → Gives t v → StandsFor specifications s (lines_of (flat_map ended lines)) v
 goes_stand s t [] v goes gives = subst (λ s. Gives s v) goes gives
 goes_stand s t (x ∷ xs) v (plain, (m, (takes, goes))) gives =
-    subst (λ lines. StandsFor s lines v) (sym (ended_again x (flat_map ended xs) plain)) (m, takes, goes_stand m t xs v goes gives)
+    subst (λ lines. StandsFor specifications s lines v) (sym (ended_again x (flat_map ended xs) plain)) (m, takes, goes_stand m t xs v goes gives)
 
 -- the line of an item that may stand there and that nothing blocks
 pub item_goes : (s t : State) (x : Said) (lines : List (List ℕ)) → IsOther x → MayStand s.group x → IsSpelled x → IsFree (LineBlocks s x) → Goes (after s x) lines t → Goes s (line_for x ∷ lines) t

@@ -11,7 +11,7 @@ use Rattle.pair_structure.specs.Role.{RoleParts, JoinsTwo, HasArc, HasArcFrom}
 use Rattle.ctl_form.specs.declared.pair_spec.PairSpec.{PairSpec}
 use Rattle.interconnection.specs.declared.parts.Process.{Process}
 use Rattle.interconnection.specs.declared.parts.Edge.{Edge}
-use Rattle.ctl_text.specs.declared.cause.TextCause.{TextCause}
+use Rattle.text_cause.specs.declared.cause.TextCause.{TextCause}
 use Rattle.ctl_text.specs.LineCause.{NameStands, UseStands, ArcStands, RoleEndStands}
 use Rattle.formula_text.specs.FormulaText.{name_at}
 use Rattle.ctl_text.specs.Item.{role_line, local_line, start_line, end_line}

@@ -9,9 +9,10 @@ use Rattle.ctl_form.specs.declared.pair_spec.PairSpec.{PairSpec}
 use Rattle.ctl_form.specs.Form.{Form}
 use Rattle.ctl_form.specs.Kind.{role_at}
 use Rattle.interconnection.specs.declared.parts.Process.{Process}
-use Rattle.ctl_text.specs.declared.cause.TextCause.TheVariants.{Long, UnknownName, Twice, ClosureOver}
+use Rattle.text_cause.specs.declared.cause.TextCause.TheVariants.{Long, UnknownName, Twice, ClosureOver}
 use Rattle.formula_text.specs.Canonical.{AreNames}
-use Rattle.ctl_text.specs.Cause.{IsFree, IsClauseSpelled, IsLongLine, Takes}
+use Rattle.text_cause.specs.Cause.{IsFree}
+use Rattle.ctl_text.specs.Cause.{IsClauseSpelled, IsLongLine, Takes}
 use Rattle.ctl_text.specs.LineCause.{LineBlocks, ProcessStands}
 use Rattle.ctl_text.specs.Item.{Said, head_line, role_line, local_line, start_line, arc_line, kind_line, require_line, end_line, process_line, edge_line, done_line, words_for, IsSpelled}
 use Rattle.ctl_text.specs.Lines.{lines_of}
@@ -21,7 +22,8 @@ use Rattle.formula_text.specs.Sign.{Names}
 use Rattle.ctl_text.specs.Sound.{IsSoundState}
 use Rattle.ctl_text.specs.SoundValue.{Differ, IsNamedRole, IsReadable, IsNamedKind, IsNamedProcess, IsOverRoles, IsSoundValue}
 use Rattle.ctl_text.specs.State.{Group, in_locals, in_arcs, in_kind, State, first_state, MayStand, after, arc_in}
-use Rattle.ctl_text.specs.Text.{StandsFor, IsSpecText}
+use Rattle.text_cause.specs.Grammar.{StandsFor}
+use Rattle.ctl_text.specs.Text.{specifications, IsSpecText}
 use Rattle.ctl_text.specs.Value.{SpecParts, role_names, kind_names, process_names, number_in}
 use Rattle.formula_text.proofs.ClausesOver.{spelled_over}
 use Rattle.ctl_text.proofs.ByCause.{free_by_line}
@@ -244,7 +246,7 @@ taken s line t takes h = elim takes.leaves [
       )
 ]
 
-stand : (s : State) (lines : List (List ℕ)) (v : SpecParts) → StandsFor s lines v → KeepsIt s → IsSoundValue v
+stand : (s : State) (lines : List (List ℕ)) (v : SpecParts) → StandsFor specifications s lines v → KeepsIt s → IsSoundValue v
 stand s [] v gives h = subst IsSoundValue (sym gives.1) (record {
   roles = h.named.roles;
   roles_differ = h.named.roles_differ;

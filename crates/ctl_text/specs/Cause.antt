@@ -8,42 +8,14 @@ use Rattle.interconnection.specs.declared.parts.Process.{Process}
 use Rattle.interconnection.specs.declared.parts.Edge.{Edge}
 use Rattle.interconnection.specs.Graph.{degree_of}
 use Rattle.formula_text.specs.Long.{IsLong}
-use Rattle.ctl_text.specs.declared.cause.TextCause.{TextCause}
-use Rattle.ctl_text.specs.declared.cause.TextCause.TheVariants.{NotText, BadHead, Long, BadLine, UnknownName, Twice, SelfArc, NoArc, TooMany, ClosureOver, SelfEdge, EdgeTwice, DegreeOver, RoleMismatch, NotAPair, NotRising, Disagree}
+use Rattle.text_cause.specs.Cause.{IsFree}
+use Rattle.text_cause.specs.declared.cause.TextCause.{TextCause}
+use Rattle.text_cause.specs.declared.cause.TextCause.TheVariants.{NotText, BadHead, Long, BadLine, UnknownName, Twice, SelfArc, NoArc, TooMany, ClosureOver, SelfEdge, EdgeTwice, DegreeOver, RoleMismatch, NotAPair, NotRising, Disagree}
 use Rattle.ctl_text.specs.Required.{tokens_in, SpellsOver, AreKnownOver, IsClosureOver}
 use Rattle.ctl_text.specs.Lines.{words_of, IsText, ArePassed}
 use Rattle.ctl_text.specs.Item.{Said, head_line, role_line, local_line, start_line, arc_line, kind_line, require_line, end_line, process_line, edge_line, words_for, Says}
 use Rattle.ctl_text.specs.Value.{SpecParts, role_names, kind_names, process_names, number_in, AreJoined, kind_at, process_at}
 use Rattle.ctl_text.specs.State.{Group, before_head, in_locals, in_arcs, in_kind, State, MayStand, after}
-
--- the order of the causes
-abbrev pub cause_no : TextCause → ℕ
-cause_no NotText = 1
-cause_no BadHead = 2
-cause_no Long = 3
-cause_no BadLine = 4
-cause_no UnknownName = 5
-cause_no Twice = 6
-cause_no SelfArc = 7
-cause_no (NoArc p) = 8
-cause_no (TooMany limit) = 9
-cause_no ClosureOver = 10
-cause_no SelfEdge = 11
-cause_no EdgeTwice = 12
-cause_no (DegreeOver k) = 13
-cause_no RoleMismatch = 14
-cause_no (NotAPair fault) = 15
-cause_no NotRising = 16
-cause_no Disagree = 17
-
--- of the causes that stand it has the lowest number
-pub record IsLowest (against : TextCause → Type 0) (cause : TextCause) : Type 0 where
-  pub stands : against cause
-  pub lowest : (other : TextCause) → cause_no other < cause_no cause → against other → ⊥
-
--- none stands
-pub record IsFree (against : TextCause → Type 0) : Type 0 where
-  pub free : (cause : TextCause) → against cause → ⊥
 
 -- UnknownName: a name that is used is not declared above
 abbrev pub IsUnknown : List (List ℕ) → List ℕ → Type 0

@@ -1,7 +1,8 @@
 ghost use Rattle.std.specs.Prelude.{◌≡◌, ◌↔◌, ◌≤◌, ◌∷◌, IsTrue, IfOk, IfErr, length, map, codes};
 ghost use Rattle.ctl_form.specs.Form.{form_of};
 ghost use Rattle.ctl_form.specs.Kind.{role_at};
-ghost use Rattle.ctl_text.specs.Judged.{IsTakenAs, IsBadBy, IsClauseOf, IsSpelledOver, SpellingStands};
+ghost use Rattle.text_cause.specs.Answers.{IsBadBy};
+ghost use Rattle.ctl_text.specs.Judged.{IsTakenAs, IsClauseOf, IsSpelledOver, SpellingStands};
 ghost use Rattle.formula_text.specs.Long.{IsLong};
 ghost use Rattle.ctl_text.specs.Required.{tokens_in};
 ghost use Rattle.ctl_text.specs.State.{with_form};
@@ -9,14 +10,13 @@ ghost use Rattle.ctl_text.specs.Cause.{WordsStand};
 ghost use Rattle.ctl_text.specs.Sound.{IsSoundState};
 ghost use Rattle.ctl_text.specs.View.{group_of, state_of};
 
-use crate::cause::{LineFault, TextCause};
+use text_cause::{LineFault, TextCause};
 use crate::grown::with_form;
 use crate::place::{Place, Reader};
 use ctl_form::Formula;
 use formula_text::{FormulaFault, is_long, read_formula, tokens_of};
 use pair_structure::{Memory, Name, Role};
 use std::alloc::{AllocError, Global};
-use text_cause::{LineFault, TextCause};
 
 /// What stands below a line that requires a clause, of these words behind `require`.
 pub(crate) fn take_clause(

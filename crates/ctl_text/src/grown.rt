@@ -3,7 +3,7 @@ ghost use Rattle.pair_structure.specs.Name.{IsName};
 ghost use Rattle.ctl_form.specs.Form.{form_of};
 ghost use Rattle.ctl_text.specs.Item.{start_line};
 ghost use Rattle.ctl_text.specs.State.{MayStand, with_local, with_start, with_arc, with_form, opened_kind};
-ghost use Rattle.ctl_text.specs.Cause.{IsFree};
+ghost use Rattle.text_cause.specs.Cause.{IsFree};
 ghost use Rattle.ctl_text.specs.LineCause.{LocalBlocks, ArcBlocks};
 ghost use Rattle.ctl_text.specs.Sound.{IsSound};
 ghost use Rattle.ctl_text.specs.View.{group_of};

@@ -22,7 +22,6 @@ mod spec_laws;
 mod spec_writer;
 mod take;
 
-pub use cause::{TextCause, TextFault};
 pub use formula_text::{
     FormulaFault, Leaf, Mark, Prefix, Sign, canonical_is_formula, is_spelled_once,
 };
