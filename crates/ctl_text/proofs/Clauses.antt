@@ -4,12 +4,12 @@ use Rattle.ctl_form.specs.declared.pair_spec.PairSpec.{PairSpec}
 use Rattle.ctl_form.specs.Form.{Form}
 use Rattle.ctl_form.specs.Kind.{role_at}
 use Rattle.ctl_text.specs.Required.{tokens_in, AreKnownOver, SpellsOver, IsUnspelled}
-use Rattle.ctl_text.specs.Sign.{Names}
+use Rattle.formula_text.specs.Sign.{Names}
 use Rattle.text_cause.specs.declared.cause.TextCause.{TextCause}
 use Rattle.text_cause.specs.declared.cause.TextCause.TheVariants.{UnknownName}
-use Rattle.ctl_text.specs.declared.formula_fault.FormulaFault.TheVariants.{Unknown}
-use Rattle.ctl_text.specs.Long.{IsLong}
-use Rattle.ctl_text.specs.Tree.{FaultStands}
+use Rattle.formula_text.specs.declared.formula_fault.FormulaFault.TheVariants.{Unknown}
+use Rattle.formula_text.specs.Long.{IsLong}
+use Rattle.formula_text.specs.Tree.{FaultStands}
 use Rattle.ctl_text.specs.Item.{Said, require_line, end_line}
 use Rattle.ctl_text.specs.Value.{SpecParts}
 use Rattle.ctl_text.specs.State.{State, in_kind}
@@ -19,6 +19,7 @@ use Rattle.text_cause.specs.Answers.{IsBadBy}
 use Rattle.ctl_text.specs.Judged.{IsClauseOf, IsSpelledOver, SpellingStands}
 use Rattle.text_cause.specs.declared.line_fault.LineFault.{LineFault}
 use Rattle.text_cause.specs.declared.line_fault.LineFault.TheVariants.{Bad, Memory}
+use Rattle.ctl_text.proofs.ByCause.{line_of_cause}
 use Rattle.ctl_text.proofs.Judged.{words_free}
 
 abbrev OpenKind : SpecParts → PairSpec → State
@@ -30,7 +31,7 @@ clause_made v k a b words form a_is b_is h =
     let spells : SpellsOver (role_at v.roles k.role_a).locals (role_at v.roles k.role_b).locals (tokens_in words) form = subst (λ x. SpellsOver x (role_at v.roles k.role_b).locals (tokens_in words) form) a_is (subst (λ y. SpellsOver a y (tokens_in words) form) b_is h.spells) in
     let may : MaySay (OpenKind v k) (codes "require" ∷ words) (require_line words form) = (record { words_are = refl; spelled = tt }, tt, spells) in record {
       may = may;
-      free = words_free (OpenKind v k) (codes "require" ∷ words) (require_line words form) may (λ long. h.short long.1) (record { free = λ cause stands. stands.1 known });
+      free = words_free (OpenKind v k) (codes "require" ∷ words) (require_line words form) may (λ long. h.short long.1) (record { free = λ cause stands. (line_of_cause (OpenKind v k) (require_line words form) cause stands).1 known });
     }
 
 unknown_below : (a b : Names) (tokens : List (List ℕ)) (form : Form) → (IsLong tokens → ⊥) → SpellsOver a b tokens form → (other : TextCause) → cause_no other < 5 → SpellingStands a b tokens other → ⊥
@@ -71,17 +72,17 @@ said_unspelled v k words none item may = may.1
 to_words : (v : SpecParts) (k : PairSpec) (words : List (List ℕ)) (cause : TextCause) → SpellingStands (LocalsA v k) (LocalsB v k) (tokens_in words) cause → WordsStand (OpenKind v k) (Clause words) cause
 to_words v k words cause (inl h) = inr (inl (h.0, (refl, h.1)))
 to_words v k words cause (inr (inl h)) = inr (inr (inl (h.0, said_unspelled v k words h.1)))
-to_words v k words cause (inr (inr (form, spells, blocks))) = inr (inr (inr (require_line words form, (record { words_are = refl; spelled = tt }, tt, spells), blocks)))
+to_words v k words cause (inr (inr (form, spells, blocks))) = inr (inr (inr (require_line words form, (record { words_are = refl; spelled = tt }, tt, spells), inl blocks)))
 
 blocked_clause : (v : SpecParts) (k : PairSpec) (words : List (List ℕ)) (cause : TextCause) (item : Said) → MaySay (OpenKind v k) (Clause words) item → Blocks (OpenKind v k) item cause → SpellingStands (LocalsA v k) (LocalsB v k) (tokens_in words) cause
 blocked_clause v k words cause (require_line us form) may blocks =
     let same = same_words us words may.0.words_are in
-    inr (inr (form, subst (λ ws. SpellsOver (LocalsA v k) (LocalsB v k) (tokens_in ws) form) same may.2, subst (λ ws. (cause ≡ UnknownName) × (AreKnownOver (LocalsA v k) (LocalsB v k) (tokens_in ws) → ⊥)) same blocks))
+    inr (inr (form, subst (λ ws. SpellsOver (LocalsA v k) (LocalsB v k) (tokens_in ws) form) same may.2, subst (λ ws. (cause ≡ UnknownName) × (AreKnownOver (LocalsA v k) (LocalsB v k) (tokens_in ws) → ⊥)) same (line_of_cause (OpenKind v k) (require_line us form) cause blocks)))
 blocked_clause v k words cause end_line may blocks = absurd (let e = may.0.words_are in cc)
 blocked_clause v k words cause item may blocks = absurd may.1
 
 from_words : (v : SpecParts) (k : PairSpec) (words : List (List ℕ)) (cause : TextCause) → WordsStand (OpenKind v k) (Clause words) cause → SpellingStands (LocalsA v k) (LocalsB v k) (tokens_in words) cause
-from_words v k words cause (inl h) = absurd (let e = h.1 in cc)
+from_words v k words cause (inl h) = absurd (let e = h.1.first in cc)
 from_words v k words cause (inr (inl h)) = inl (h.0, h.1.1)
 from_words v k words cause (inr (inr (inl h))) = inr (inl (h.0, λ form spells. h.1 (require_line words form) (record { words_are = refl; spelled = tt }, tt, spells)))
 from_words v k words cause (inr (inr (inr (item, may, blocks)))) = blocked_clause v k words cause item may blocks

@@ -9,7 +9,8 @@ use Rattle.interconnection.specs.Network.{HasRoles, IsInRange, JoinsTwo}
 use Rattle.text_cause.specs.declared.cause.TextCause.TheVariants.{UnknownName, SelfEdge, EdgeTwice, DegreeOver, RoleMismatch}
 use Rattle.ctl_text.specs.Value.{AreJoined, kind_ends, kind_names, process_names, number_in, kind_at, process_at}
 use Rattle.text_cause.specs.Cause.{IsFree}
-use Rattle.ctl_text.specs.Cause.{EdgeStands, IsCrowded, AreOfKind}
+use Rattle.ctl_text.specs.Cause.{IsCrowded, AreOfKind}
+use Rattle.ctl_text.specs.LineCause.{EdgeStands}
 use Rattle.ctl_text.proofs.Crowded.{none_crowded}
 use Rattle.ctl_text.proofs.GraphKept.{ends_at}
 use Rattle.ctl_text.proofs.Named.{contained, number_within}

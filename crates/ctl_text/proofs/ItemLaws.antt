@@ -11,8 +11,8 @@ use Rattle.ctl_text.specs.State.{State, Group, before_head, among_roles, in_loca
 use Rattle.ctl_text.specs.Cause.{IsClauseSpelled, MaySay}
 use Rattle.ctl_text.specs.ItemReading.{item_at}
 use Rattle.ctl_text.specs.Required.{tokens_in}
-use Rattle.ctl_text.specs.Tree.{signs_of}
-use Rattle.ctl_text.proofs.Spelled.{spelled_once}
+use Rattle.formula_text.specs.Tree.{signs_of}
+use Rattle.formula_text.proofs.Spelled.{spelled_once}
 
 -- a line is read as itself, or requires a clause
 abbrev ReadAgain : Said → Type 0

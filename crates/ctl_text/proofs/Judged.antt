@@ -32,11 +32,11 @@ not_head : (s : State) (words : List (List ℕ)) → s.group ≡ before_head →
 not_head s words is none words_are = none head_line (record { words_are = words_are; spelled = tt }, subst (λ g. MayStand g head_line) (sym is) tt, tt)
 
 pub head_lowest : (s : State) (words : List (List ℕ)) → s.group ≡ before_head → ((item : Said) → MaySay s words item → ⊥) → IsLowest (WordsStand s words) BadHead
-head_lowest s words is none = record { stands = inl (refl, is, not_head s words is none); lowest = head_below s words none }
+head_lowest s words is none = record { stands = inl (refl, record { first = is; other = not_head s words is none }); lowest = head_below s words none }
 
 -- and below it
 line_below : (s : State) (words : List (List ℕ)) → (s.group ≡ before_head → ⊥) → (IsLongLine words → ⊥) → ((item : Said) → MaySay s words item → ⊥) → (other : TextCause) → cause_no other < 4 → WordsStand s words other → ⊥
-line_below s words below short none other lt (inl h) = below h.1
+line_below s words below short none other lt (inl h) = below h.1.first
 line_below s words below short none other lt (inr (inl h)) = short h.1
 line_below s words below short none other lt (inr (inr (inl h))) = let e = number_is other BadLine h.0 in omega arith
 line_below s words below short none other lt (inr (inr (inr (item, may, blocks)))) = none item may
@@ -70,7 +70,7 @@ said_head : (s : State) (words : List (List ℕ)) (item : Said) → MaySay s wor
 said_head s words item may is = may.0.words_are ∙ ap words_for (head_only s.group item may.1 is)
 
 blocked_below : (s : State) (words : List (List ℕ)) (item : Said) (cause : TextCause) → MaySay s words item → (IsLongLine words → ⊥) → IsLowest (Blocks s item) cause → (other : TextCause) → cause_no other < cause_no cause → WordsStand s words other → ⊥
-blocked_below s words item cause may short least other lt (inl h) = h.2 (said_head s words item may h.1)
+blocked_below s words item cause may short least other lt (inl h) = h.1.other (said_head s words item may h.1.first)
 blocked_below s words item cause may short least other lt (inr (inl h)) = short h.1
 blocked_below s words item cause may short least other lt (inr (inr (inl h))) = h.1 item may
 blocked_below s words item cause may short least other lt (inr (inr (inr (y, y_may, blocks)))) =
@@ -80,7 +80,7 @@ pub blocked_lowest : (s : State) (words : List (List ℕ)) (item : Said) (cause 
 blocked_lowest s words item cause may short least = record { stands = inr (inr (inr (item, may, least.stands))); lowest = blocked_below s words item cause may short least }
 
 free_words : (s : State) (words : List (List ℕ)) (item : Said) → MaySay s words item → (IsLongLine words → ⊥) → IsFree (Blocks s item) → (other : TextCause) → WordsStand s words other → ⊥
-free_words s words item may short free other (inl h) = h.2 (said_head s words item may h.1)
+free_words s words item may short free other (inl h) = h.1.other (said_head s words item may h.1.first)
 free_words s words item may short free other (inr (inl h)) = short h.1
 free_words s words item may short free other (inr (inr (inl h))) = h.1 item may
 free_words s words item may short free other (inr (inr (inr (y, y_may, blocks)))) =

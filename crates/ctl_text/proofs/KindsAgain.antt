@@ -8,8 +8,8 @@ use Rattle.ctl_form.specs.declared.pair_spec.PairSpec.{PairSpec}
 use Rattle.ctl_form.specs.Form.{Form}
 use Rattle.ctl_form.specs.Kind.{role_at}
 use Rattle.text_cause.specs.declared.cause.TextCause.{TextCause}
-use Rattle.ctl_text.specs.Cause.{KindStands, KindEndStands}
-use Rattle.ctl_text.specs.FormulaText.{name_at}
+use Rattle.ctl_text.specs.LineCause.{KindStands, KindEndStands}
+use Rattle.formula_text.specs.FormulaText.{name_at}
 use Rattle.ctl_text.specs.Item.{kind_line, end_line, process_line, edge_line, done_line}
 use Rattle.ctl_text.specs.Required.{IsClosureOver}
 use Rattle.ctl_text.specs.SoundValue.{Differ, IsNamedRole, IsNamedKind, IsReadable}
@@ -17,7 +17,7 @@ use Rattle.ctl_text.specs.SpecText.{line_for, require_text, kind_lines}
 use Rattle.ctl_text.specs.State.{State, Group, among_kinds, in_kind, MayStand}
 use Rattle.ctl_text.specs.Value.{role_names, kind_names, number_in}
 use Rattle.ctl_text.proofs.LinesTaken.{Goes, goes_further, item_goes, clause_goes}
-use Rattle.ctl_text.proofs.RoleNames.{names_of_role}
+use Rattle.formula_text.proofs.RoleNames.{names_of_role}
 use Rattle.ctl_text.proofs.RolesAgain.{At, name_free, use_free, distinct_new, number_again}
 
 -- edges may stand there, or nothing more

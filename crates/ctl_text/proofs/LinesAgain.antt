@@ -8,13 +8,13 @@ use Rattle.pair_structure.specs.Name.{IsName, is_name_byte}
 use Rattle.pair_structure.specs.declared.side.Side.{Side}
 use Rattle.pair_structure.specs.declared.side.Side.TheVariants.{A, B}
 use Rattle.ctl_form.specs.Form.{Form, truth, falsity, at, neg, both, either, implies, next, always, sometime, until}
-use Rattle.ctl_text.specs.FormulaText.{Names, name_at, formula_text, path_letter, side_letters, until_letter}
-use Rattle.ctl_text.specs.Canonical.{IsOver}
+use Rattle.formula_text.specs.FormulaText.{Names, name_at, formula_text, path_letter, side_letters, until_letter}
+use Rattle.formula_text.specs.Canonical.{IsOver}
 use Rattle.ctl_text.specs.Item.{Said, head_line, role_line, local_line, start_line, arc_line, kind_line, require_line, end_line, process_line, edge_line, done_line, words_for, IsSpelled}
 use Rattle.ctl_text.specs.Lines.{lines_of, words_of, is_space, before_first, is_text_byte, IsText, ArePassed, IsRequire}
 use Rattle.ctl_text.specs.Required.{tokens_in}
 use Rattle.ctl_text.specs.SpecText.{spaced, ended, line_for}
-use Rattle.ctl_text.specs.Token.{tokens_of, is_gap, are_joined, joins, before_token}
+use Rattle.formula_text.specs.Token.{tokens_of, is_gap, are_joined, joins, before_token}
 
 -- a byte that is seen: no space and no control
 abbrev pub is_seen : ℕ → Bool

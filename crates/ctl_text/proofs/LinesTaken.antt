@@ -4,20 +4,23 @@ use Rattle.std.specs.List.{flat_map}
 use Rattle.ctl_form.specs.declared.pair_spec.PairSpec.{PairSpec}
 use Rattle.ctl_form.specs.Form.{Form}
 use Rattle.ctl_form.specs.Kind.{role_at}
-use Rattle.ctl_text.specs.Canonical.{AreNames}
+use Rattle.formula_text.specs.Canonical.{AreNames}
 use Rattle.text_cause.specs.Cause.{IsFree}
-use Rattle.ctl_text.specs.Cause.{Blocks, Takes}
-use Rattle.ctl_text.specs.FormulaText.{Names, formula_text}
+use Rattle.ctl_text.specs.Cause.{Takes}
+use Rattle.ctl_text.specs.LineCause.{LineBlocks}
+use Rattle.formula_text.specs.FormulaText.{Names, formula_text}
 use Rattle.ctl_text.specs.Item.{Said, require_line, words_for, IsSpelled}
 use Rattle.ctl_text.specs.Judged.{IsSpelledOver}
 use Rattle.ctl_text.specs.Lines.{lines_of, words_of}
 use Rattle.ctl_text.specs.SoundValue.{IsReadable}
 use Rattle.ctl_text.specs.SpecText.{ended, line_for, require_text}
 use Rattle.ctl_text.specs.State.{State, in_kind, MayStand, after}
-use Rattle.ctl_text.specs.Text.{Gives, StandsFor}
-use Rattle.ctl_text.specs.Token.{tokens_of}
+use Rattle.text_cause.specs.Grammar.{StandsFor}
+use Rattle.ctl_text.specs.Text.{Gives, specifications}
+use Rattle.formula_text.specs.Token.{tokens_of}
 use Rattle.ctl_text.specs.Value.{SpecParts}
-use Rattle.ctl_text.proofs.Canonical.{canonical_is_formula}
+use Rattle.formula_text.proofs.Canonical.{canonical_is_formula}
+use Rattle.ctl_text.proofs.ByCause.{free_by_cause}
 use Rattle.ctl_text.proofs.Clauses.{clause_made}
 use Rattle.ctl_text.proofs.Judged.{may_say, no_long, taken_as, taken_takes}
 use Rattle.ctl_text.proofs.LinesAgain.{IsPlain, AllNames, IsOther, plain_append, plain_text, formula_plain, item_plain, item_again, item_not_passed, item_no_clause, ended_again, tokens_again, clause_words}
@@ -32,18 +35,18 @@ goes_further s t u [] ys first then = subst (λ t. Goes t ys u) first then
 goes_further s t u (x ∷ xs) ys (plain, (m, (takes, first))) then = (plain, (m, (takes, goes_further m t u xs ys first then)))
 
 -- lines that are taken stand for the value that the last state gives
-pub goes_stand : (s t : State) (lines : List (List ℕ)) (v : SpecParts) → Goes s lines t → Gives t v → StandsFor s (lines_of (flat_map ended lines)) v
+pub goes_stand : (s t : State) (lines : List (List ℕ)) (v : SpecParts) → Goes s lines t → Gives t v → StandsFor specifications s (lines_of (flat_map ended lines)) v
 goes_stand s t [] v goes gives = subst (λ s. Gives s v) goes gives
 goes_stand s t (x ∷ xs) v (plain, (m, (takes, goes))) gives =
-    subst (λ lines. StandsFor s lines v) (sym (ended_again x (flat_map ended xs) plain)) (m, takes, goes_stand m t xs v goes gives)
+    subst (λ lines. StandsFor specifications s lines v) (sym (ended_again x (flat_map ended xs) plain)) (m, takes, goes_stand m t xs v goes gives)
 
 -- the line of an item that may stand there and that nothing blocks
-pub item_goes : (s t : State) (x : Said) (lines : List (List ℕ)) → IsOther x → MayStand s.group x → IsSpelled x → IsFree (Blocks s x) → Goes (after s x) lines t → Goes s (line_for x ∷ lines) t
+pub item_goes : (s t : State) (x : Said) (lines : List (List ℕ)) → IsOther x → MayStand s.group x → IsSpelled x → IsFree (LineBlocks s x) → Goes (after s x) lines t → Goes s (line_for x ∷ lines) t
 item_goes s t x lines other may spelled free more =
     let again = sym (item_again x other spelled) in
     let plain = item_plain x other spelled in
     let says = may_say s (words_for x) x (item_no_clause x other) (record { words_are = refl; spelled = spelled }, may) in
-    let taken = taken_as s (after s x) (words_for x) x says (no_long (words_for x) (item_no_clause x other)) free refl in
+    let taken = taken_as s (after s x) (words_for x) x says (no_long (words_for x) (item_no_clause x other)) (free_by_cause s x free) refl in
     (plain, (after s x, (taken_takes s (after s x) (line_for x) (words_for x) (words_for x) again again (plain_text (line_for x) plain) (item_not_passed x) taken, more)))
 
 -- the canonical line of a clause of the open kind

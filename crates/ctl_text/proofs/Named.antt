@@ -4,9 +4,9 @@ use Rattle.std.proofs.lemmas.List.{length-map, get_or_default}
 use Rattle.std.proofs.lemmas.List.Quantifiers.{position-Some}
 use Rattle.std.proofs.lemmas.Slice.Eq.{bytes_eq-Decides}
 use Rattle.std.specs.List.{position_or_len}
-use Rattle.std.specs.Option.{is_some}
+use Rattle.std.specs.Option.{is_some, unwrap_or}
 use Rattle.std.specs.Str.{bytes_eq}
-use Rattle.ctl_text.specs.Value.{number_in, or_zero}
+use Rattle.ctl_text.specs.Value.{number_in}
 use Rattle.ctl_text.proofs.LineLaws.{none_passes_at}
 
 first_named : {X : Type 0} (f : X → List ℕ) (xs : List X) (y : List ℕ) → position_or_len (λ x. bytes_eq x y) (map f xs) ≡ position_or_len (λ x. bytes_eq (f x) y) xs
@@ -18,7 +18,7 @@ pub position-names : {X : Type 0} (f : X → List ℕ) (xs : List X) (y : List �
 position-names f xs y = rw (first_named f xs y, length-map xs f) refl
 
 abbrev Named : List (List ℕ) → List ℕ → Option ℕ → Type 0
-Named names name found = (Contains names name × (get_or names (or_zero found) [] ≡ name) × (or_zero found < length names) × (is_some found ≡ true)) ⊎ ((Contains names name → ⊥) × (is_some found ≡ false))
+Named names name found = (Contains names name × (get_or names (unwrap_or found 0) [] ≡ name) × (unwrap_or found 0 < length names) × (is_some found ≡ true)) ⊎ ((Contains names name → ⊥) × (is_some found ≡ false))
 
 -- a name is among these, at its number, or not
 named : (names : List (List ℕ)) (name : List ℕ) (found : Option ℕ) → position (λ x. bytes_eq x name) names ≡ found → Named names name found

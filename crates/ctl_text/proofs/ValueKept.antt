@@ -10,26 +10,29 @@ use Rattle.ctl_form.specs.Form.{Form}
 use Rattle.ctl_form.specs.Kind.{role_at}
 use Rattle.interconnection.specs.declared.parts.Process.{Process}
 use Rattle.text_cause.specs.declared.cause.TextCause.TheVariants.{Long, UnknownName, Twice, ClosureOver}
-use Rattle.ctl_text.specs.Canonical.{AreNames}
+use Rattle.formula_text.specs.Canonical.{AreNames}
 use Rattle.text_cause.specs.Cause.{IsFree}
-use Rattle.ctl_text.specs.Cause.{Blocks, IsClauseSpelled, IsLongLine, ProcessStands, Takes}
+use Rattle.ctl_text.specs.Cause.{IsClauseSpelled, IsLongLine, Takes}
+use Rattle.ctl_text.specs.LineCause.{LineBlocks, ProcessStands}
 use Rattle.ctl_text.specs.Item.{Said, head_line, role_line, local_line, start_line, arc_line, kind_line, require_line, end_line, process_line, edge_line, done_line, words_for, IsSpelled}
 use Rattle.ctl_text.specs.Lines.{lines_of}
-use Rattle.ctl_text.specs.Long.{IsLong}
+use Rattle.formula_text.specs.Long.{IsLong}
 use Rattle.ctl_text.specs.Required.{tokens_in, SpellsOver, AreKnownOver, IsClosureOver}
-use Rattle.ctl_text.specs.Sign.{Names}
+use Rattle.formula_text.specs.Sign.{Names}
 use Rattle.ctl_text.specs.Sound.{IsSoundState}
-use Rattle.ctl_text.specs.SoundValue.{Differ, IsNamedRole, IsReadable, IsNamedKind, IsNamedProcess, IsSoundValue}
+use Rattle.ctl_text.specs.SoundValue.{Differ, IsNamedRole, IsReadable, IsNamedKind, IsNamedProcess, IsOverRoles, IsSoundValue}
 use Rattle.ctl_text.specs.State.{Group, in_locals, in_arcs, in_kind, State, first_state, MayStand, after, arc_in}
-use Rattle.ctl_text.specs.Text.{StandsFor, IsSpecText}
+use Rattle.text_cause.specs.Grammar.{StandsFor}
+use Rattle.ctl_text.specs.Text.{specifications, IsSpecText}
 use Rattle.ctl_text.specs.Value.{SpecParts, role_names, kind_names, process_names, number_in}
-use Rattle.ctl_text.proofs.ClausesOver.{spelled_over}
+use Rattle.formula_text.proofs.ClausesOver.{spelled_over}
+use Rattle.ctl_text.proofs.ByCause.{free_by_line}
 use Rattle.ctl_text.proofs.GraphKept.{none_declared}
 use Rattle.ctl_text.proofs.Kept.{locals_more, arcs_more, role_made, head_sound, done_sound, role_opens, kind_opens, end_sound, process_sound, edge_sound, role_within}
 use Rattle.ctl_text.proofs.KindsAgain.{role_named}
 use Rattle.ctl_text.proofs.Named.{contained, number_within}
-use Rattle.ctl_text.proofs.RoleNames.{names_of_role}
-use Rattle.ctl_text.proofs.Weights.{canonical_short}
+use Rattle.formula_text.proofs.RoleNames.{names_of_role}
+use Rattle.formula_text.proofs.Weights.{canonical_short}
 
 abbrev At : SpecParts → Group → State
 At v g = record { parts = v; group = g }
@@ -62,7 +65,7 @@ none_named = λ k d lt. absurd (omega arith)
 differ_more : (names : List (List ℕ)) (name : List ℕ) → Differ names → (Contains names name → ⊥) → Differ (names ++ name ∷ [])
 differ_more names name differ fresh = all_pairs_push (λ x y. x ≢ y) names name differ (λ k d lt same. fresh (k, lt, get_or_default names k name d lt ∙ same))
 
-local_kept : (v : SpecParts) (g : Group) (n : List ℕ) → Keeps v g → MayStand g (local_line n) → IsFree (Blocks (At v g) (local_line n)) → IsName n → Keeps (after (At v g) (local_line n)).parts (after (At v g) (local_line n)).group
+local_kept : (v : SpecParts) (g : Group) (n : List ℕ) → Keeps v g → MayStand g (local_line n) → IsFree (LineBlocks (At v g) (local_line n)) → IsName n → Keeps (after (At v g) (local_line n)).parts (after (At v g) (local_line n)).group
 local_kept v (in_locals name names) n h may free spelled = record {
   state = record {
     few_roles = h.state.few_roles;
@@ -78,7 +81,7 @@ local_kept v (in_locals name names) n h may free spelled = record {
 }
 local_kept v g n h may free spelled = absurd may
 
-start_kept : (v : SpecParts) (g : Group) (n : List ℕ) → Keeps v g → MayStand g (start_line n) → IsFree (Blocks (At v g) (start_line n)) → Keeps (after (At v g) (start_line n)).parts (after (At v g) (start_line n)).group
+start_kept : (v : SpecParts) (g : Group) (n : List ℕ) → Keeps v g → MayStand g (start_line n) → IsFree (LineBlocks (At v g) (start_line n)) → Keeps (after (At v g) (start_line n)).parts (after (At v g) (start_line n)).group
 start_kept v (in_locals name names) n h may free = record {
   state = record {
     few_roles = h.state.few_roles;
@@ -94,7 +97,7 @@ start_kept v (in_locals name names) n h may free = record {
 }
 start_kept v g n h may free = absurd may
 
-arc_kept : (v : SpecParts) (g : Group) (p q : List ℕ) (f : Bool) → Keeps v g → MayStand g (arc_line p q f) → IsFree (Blocks (At v g) (arc_line p q f)) → Keeps (after (At v g) (arc_line p q f)).parts (after (At v g) (arc_line p q f)).group
+arc_kept : (v : SpecParts) (g : Group) (p q : List ℕ) (f : Bool) → Keeps v g → MayStand g (arc_line p q f) → IsFree (LineBlocks (At v g) (arc_line p q f)) → Keeps (after (At v g) (arc_line p q f)).parts (after (At v g) (arc_line p q f)).group
 arc_kept v (in_arcs r) p q f h may free =
     let from_in = number_within r.locals p (contained r.locals p (λ unknown. free.free UnknownName (inl (refl, unknown)))) in
     let to_in = number_within r.locals q (contained r.locals q (λ unknown. free.free UnknownName (inr (inl (refl, unknown))))) in record {
@@ -125,7 +128,7 @@ true_or_not false not_not = absurd (not_not (λ e. cc))
 role_names_of : (v : SpecParts) (k : ℕ) → IsNamed v → k < length v.roles → AreNames (role_at v.roles k).locals
 role_names_of v k named lt = let r = role_named v.roles k named.roles lt in names_of_role (role_at v.roles k).locals (λ i within. r.locals i [] within) r.role.names_differ
 
-clause_kept : (v : SpecParts) (g : Group) (words : List (List ℕ)) (form : Form) → Keeps v g → MayStand g (require_line words form) → IsFree (Blocks (At v g) (require_line words form)) → IsClauseSpelled (require_line words form) v.roles g → (IsLong (tokens_in words) → ⊥)
+clause_kept : (v : SpecParts) (g : Group) (words : List (List ℕ)) (form : Form) → Keeps v g → MayStand g (require_line words form) → IsFree (LineBlocks (At v g) (require_line words form)) → IsClauseSpelled (require_line words form) v.roles g → (IsLong (tokens_in words) → ⊥)
     → Keeps (after (At v g) (require_line words form)).parts (after (At v g) (require_line words form)).group
 clause_kept v (in_kind k) words form h may free spells short = record {
   state = record {
@@ -165,7 +168,7 @@ kind_wider roles r k h =
 names_more : {X : Type 0} (f : X → List ℕ) (xs : List X) (x : X) → Differ (map f xs) → (Contains (map f xs) (f x) → ⊥) → Differ (map f (xs ++ x ∷ []))
 names_more f xs x differ fresh = subst Differ (sym (map-append f xs (x ∷ []))) (differ_more (map f xs) (f x) differ fresh)
 
-end_kept : (v : SpecParts) (g : Group) → Keeps v g → MayStand g end_line → IsFree (Blocks (At v g) end_line) → Keeps (after (At v g) end_line).parts (after (At v g) end_line).group
+end_kept : (v : SpecParts) (g : Group) → Keeps v g → MayStand g end_line → IsFree (LineBlocks (At v g) end_line) → Keeps (after (At v g) end_line).parts (after (At v g) end_line).group
 end_kept v (in_arcs r) h may free =
     let role : IsNamedRole r = record { name = h.opened.0; locals = h.opened.2; role = role_made r.locals r.start r.arcs h.state.group.0 h.state.group.1 h.state.group.2 free } in record {
       state = end_sound v (in_arcs r) h.state may;
@@ -211,7 +214,7 @@ process_kept v g name r h free spelled =
     }
 
 -- a line that may stand there, and that nothing stands against, keeps it so
-said_kept : (v : SpecParts) (g : Group) (item : Said) → Keeps v g → MayStand g item → IsFree (Blocks (At v g) item) → IsSpelled item → IsClauseSpelled item v.roles g → (IsLongLine (words_for item) → ⊥) → Keeps (after (At v g) item).parts (after (At v g) item).group
+said_kept : (v : SpecParts) (g : Group) (item : Said) → Keeps v g → MayStand g item → IsFree (LineBlocks (At v g) item) → IsSpelled item → IsClauseSpelled item v.roles g → (IsLongLine (words_for item) → ⊥) → Keeps (after (At v g) item).parts (after (At v g) item).group
 said_kept v g head_line h may free spelled spells short = record { state = head_sound (At v g) h.state; named = h.named; opened = tt }
 said_kept v g (role_line name) h may free spelled spells short =
     record { state = role_opens (At v g) name name [] h.state free refl; named = h.named; opened = (spelled, λ there. free.free Twice (inl (refl, there)), none_named) }
@@ -238,12 +241,12 @@ taken s line t takes h = elim takes.leaves [
   | inl passed ↦ subst KeepsIt (sym passed.1) h
   | inr said ↦ (
       let item = said.1.0 in let may = said.1.1.may in
-      subst KeepsIt (sym said.1.1.next) (said_kept s.parts s.group item h may.1 (record { free = λ cause blocks. takes.free.free cause (inr (said.0, inr (inr (inr (item, may, blocks))))) }) may.0.spelled may.2
+      subst KeepsIt (sym said.1.1.next) (said_kept s.parts s.group item h may.1 (free_by_line s item (record { free = λ cause blocks. takes.free.free cause (inr (said.0, inr (inr (inr (item, may, blocks))))) })) may.0.spelled may.2
       (λ long. takes.free.free Long (inr (said.0, inr (inl (refl, subst IsLongLine (sym may.0.words_are) long))))))
       )
 ]
 
-stand : (s : State) (lines : List (List ℕ)) (v : SpecParts) → StandsFor s lines v → KeepsIt s → IsSoundValue v
+stand : (s : State) (lines : List (List ℕ)) (v : SpecParts) → StandsFor specifications s lines v → KeepsIt s → IsSoundValue v
 stand s [] v gives h = subst IsSoundValue (sym gives.1) (record {
   roles = h.named.roles;
   roles_differ = h.named.roles_differ;
@@ -272,3 +275,7 @@ nothing = record {
 
 pub text_sound : (bytes : List ℕ) (v : SpecParts) → IsSpecText bytes v → IsSoundValue v
 text_sound bytes v text = stand first_state (lines_of bytes) v text nothing
+
+-- each kind of a sound value is over two of its roles
+pub kinds_over : (v : SpecParts) → IsSoundValue v → All (IsOverRoles (length v.roles)) v.kinds
+kinds_over v sound = λ i d lt. let k = sound.kinds i d lt in record { role_a = k.role_a; role_b = k.role_b }

@@ -1,4 +1,4 @@
--- Why a line is refused: each cause with the rule that the line breaks.
+-- Why a line is refused: of each cause, where it stands, by the kinds of lines.
 use Rattle.std.specs.Prelude.{ℕ, ◌≡◌, ◌≢◌, ◌<◌, ◌≤◌, ◌⊎◌, List, [], ◌∷◌, codes, length, Contains}
 use Rattle.pair_structure.specs.declared.side.LocalArc.{LocalArc}
 use Rattle.pair_structure.specs.Role.{RoleParts, HasArc, HasArcFrom}
@@ -6,33 +6,43 @@ use Rattle.ctl_form.specs.declared.pair_spec.PairSpec.{PairSpec}
 use Rattle.ctl_form.specs.Kind.{role_at}
 use Rattle.interconnection.specs.declared.parts.Process.{Process}
 use Rattle.interconnection.specs.declared.parts.Edge.{Edge}
+use Rattle.interconnection.specs.Graph.{degree_of}
+use Rattle.formula_text.specs.Long.{IsLong}
+use Rattle.text_cause.specs.Cause.{IsFree}
 use Rattle.text_cause.specs.declared.cause.TextCause.{TextCause}
 use Rattle.text_cause.specs.declared.cause.TextCause.TheVariants.{NotText, BadHead, Long, BadLine, UnknownName, Twice, SelfArc, NoArc, TooMany, ClosureOver, SelfEdge, EdgeTwice, DegreeOver, RoleMismatch, NotAPair, NotRising, Disagree}
-use Rattle.text_cause.specs.Cause.{IsFree}
-use Rattle.ctl_text.specs.Long.{IsLong}
-use Rattle.interconnection.specs.Graph.{degree_of}
 use Rattle.ctl_text.specs.Required.{tokens_in, SpellsOver, AreKnownOver, IsClosureOver}
 use Rattle.ctl_text.specs.Lines.{words_of, IsText, ArePassed}
 use Rattle.ctl_text.specs.Item.{Said, head_line, role_line, local_line, start_line, arc_line, kind_line, require_line, end_line, process_line, edge_line, words_for, Says}
-use Rattle.ctl_text.specs.Value.{role_names, kind_names, process_names, number_in, AreJoined, kind_at, process_at}
+use Rattle.ctl_text.specs.Value.{SpecParts, role_names, kind_names, process_names, number_in, AreJoined, kind_at, process_at}
 use Rattle.ctl_text.specs.State.{Group, before_head, in_locals, in_arcs, in_kind, State, MayStand, after}
 
--- against a name that is declared below these, of which there may be so many
-abbrev pub NameStands : List (List ℕ) → ℕ → List ℕ → TextCause → Type 0
-NameStands names most name cause = ((cause ≡ Twice) × Contains names name) ⊎ ((cause ≡ TooMany most) × (most ≤ length names))
+-- UnknownName: a name that is used is not declared above
+abbrev pub IsUnknown : List (List ℕ) → List ℕ → Type 0
+IsUnknown names name = Contains names name → ⊥
 
--- against a name that is used below these
-abbrev pub UseStands : List (List ℕ) → List ℕ → TextCause → Type 0
-UseStands names name cause = (cause ≡ UnknownName) × (Contains names name → ⊥)
+abbrev pub UsesUnknown : Said → SpecParts → Group → Type 0
+UsesUnknown (start_line n) v (in_locals name names) = IsUnknown names n
+UsesUnknown (arc_line p q free) v (in_arcs r) = IsUnknown r.locals p ⊎ IsUnknown r.locals q
+UsesUnknown (kind_line name a b) v group = IsUnknown (role_names v.roles) a ⊎ IsUnknown (role_names v.roles) b
+UsesUnknown (require_line words form) v (in_kind k) = AreKnownOver (role_at v.roles k.role_a).locals (role_at v.roles k.role_b).locals (tokens_in words) → ⊥
+UsesUnknown (process_line name r) v group = IsUnknown (role_names v.roles) r
+UsesUnknown (edge_line p q kind) v group = IsUnknown (process_names v.processes) p ⊎ (IsUnknown (process_names v.processes) q ⊎ IsUnknown (kind_names v.kinds) kind)
+UsesUnknown item v group = ⊥
 
--- against an arc between local states of an open role with these arcs
-abbrev pub ArcStands : List (List ℕ) → List LocalArc → List ℕ → List ℕ → TextCause → Type 0
-ArcStands names made p q cause =
-    UseStands names p cause
-    ⊎ (UseStands names q cause
-    ⊎ (((cause ≡ Twice) × HasArc made (number_in names p) (number_in names q))
-    ⊎ (((cause ≡ SelfArc) × (p ≡ q))
-    ⊎ ((cause ≡ TooMany 128) × (128 ≤ length made)))))
+-- Twice: a name that its name space has, or an arc that the role has, is declared again
+abbrev pub DeclaresAgain : Said → SpecParts → Group → Type 0
+DeclaresAgain (role_line name) v group = Contains (role_names v.roles) name
+DeclaresAgain (local_line n) v (in_locals name names) = Contains names n
+DeclaresAgain (arc_line p q free) v (in_arcs r) = Contains r.locals p × Contains r.locals q × HasArc r.arcs (number_in r.locals p) (number_in r.locals q)
+DeclaresAgain (kind_line name a b) v group = Contains (kind_names v.kinds) name
+DeclaresAgain (process_line name r) v group = Contains (process_names v.processes) name
+DeclaresAgain item v group = ⊥
+
+-- SelfArc: an arc from a local state to itself
+abbrev pub JoinsItself : Said → Group → Type 0
+JoinsItself (arc_line p q free) (in_arcs r) = Contains r.locals p × (p ≡ q)
+JoinsItself item group = ⊥
 
 -- no arc leaves the local state, and one leaves each before it
 pub record IsFirstStuck (names : List (List ℕ)) (made : List LocalArc) (p : ℕ) : Type 0 where
@@ -40,25 +50,38 @@ pub record IsFirstStuck (names : List (List ℕ)) (made : List LocalArc) (p : �
   pub stuck : HasArcFrom made p → ⊥
   pub before : (k : ℕ) → k < p → HasArcFrom made k
 
--- against the end of an open role
-abbrev pub RoleEndStands : List (List ℕ) → List LocalArc → TextCause → Type 0
-RoleEndStands names made cause = (p : ℕ) × (cause ≡ NoArc p) × IsFirstStuck names made p
+-- NoArc: the end of a role in which no arc leaves this local state, the first such
+abbrev pub LeavesStuck : Said → Group → ℕ → Type 0
+LeavesStuck end_line (in_arcs r) p = IsFirstStuck r.locals r.arcs p
+LeavesStuck item group p = ⊥
 
--- against a kind over two roles
-abbrev pub KindStands : List RoleParts → List PairSpec → List ℕ → List ℕ → List ℕ → TextCause → Type 0
-KindStands roles kinds name a b cause = UseStands (role_names roles) a cause ⊎ (UseStands (role_names roles) b cause ⊎ NameStands (kind_names kinds) 16 name cause)
+-- TooMany: one more than so many roles, local states, arcs, kinds or processes
+abbrev pub GoesOver : Said → SpecParts → Group → ℕ → Type 0
+GoesOver (role_line name) v group limit = (limit ≡ 16) × (16 ≤ length (role_names v.roles))
+GoesOver (local_line n) v (in_locals name names) limit = (limit ≡ 32) × (32 ≤ length names)
+GoesOver (arc_line p q free) v (in_arcs r) limit = (limit ≡ 128) × (128 ≤ length r.arcs)
+GoesOver (kind_line name a b) v group limit = (limit ≡ 16) × (16 ≤ length (kind_names v.kinds))
+GoesOver (process_line name r) v group limit = (limit ≡ 1024) × (1024 ≤ length (process_names v.processes))
+GoesOver item v group limit = ⊥
 
--- against a clause of an open kind
-abbrev pub ClauseStands : List RoleParts → PairSpec → List (List ℕ) → TextCause → Type 0
-ClauseStands roles k words cause = (cause ≡ UnknownName) × (AreKnownOver (role_at roles k.role_a).locals (role_at roles k.role_b).locals (tokens_in words) → ⊥)
+-- ClosureOver: the end of a kind whose closure is too large
+abbrev pub HasLargeClosure : Said → SpecParts → Group → Type 0
+HasLargeClosure end_line v (in_kind k) = IsClosureOver (role_at v.roles k.role_a) (role_at v.roles k.role_b) k.clauses
+HasLargeClosure item v group = ⊥
 
--- against the end of an open kind
-abbrev pub KindEndStands : List RoleParts → PairSpec → TextCause → Type 0
-KindEndStands roles k cause = (cause ≡ ClosureOver) × IsClosureOver (role_at roles k.role_a) (role_at roles k.role_b) k.clauses
+-- the names of an edge are declared: those of its two processes and of its kind
+abbrev pub AreDeclared : SpecParts → List ℕ → List ℕ → List ℕ → Type 0
+AreDeclared v p q kind = Contains (process_names v.processes) p × Contains (process_names v.processes) q × Contains (kind_names v.kinds) kind
 
--- against a process of a role
-abbrev pub ProcessStands : List RoleParts → List Process → List ℕ → List ℕ → TextCause → Type 0
-ProcessStands roles processes name r cause = UseStands (role_names roles) r cause ⊎ NameStands (process_names processes) 1024 name cause
+-- SelfEdge: an edge from a process to itself
+abbrev pub IsLoop : Said → SpecParts → Type 0
+IsLoop (edge_line p q kind) v = AreDeclared v p q kind × (number_in (process_names v.processes) p ≡ number_in (process_names v.processes) q)
+IsLoop item v = ⊥
+
+-- EdgeTwice: an edge between two processes that an edge above joins, in either direction
+abbrev pub JoinsAgain : Said → SpecParts → Type 0
+JoinsAgain (edge_line p q kind) v = AreDeclared v p q kind × AreJoined v.edges (number_in (process_names v.processes) p) (number_in (process_names v.processes) q)
+JoinsAgain item v = ⊥
 
 -- the process is one of two and has 32 edges
 pub record IsCrowded (edges : List Edge) (p q k : ℕ) : Type 0 where
@@ -75,55 +98,29 @@ pub record AreOfKind (processes : List Process) (kinds : List PairSpec) (p q kin
   pub role_a : (process_at processes p).role ≡ (kind_at kinds kind).role_a
   pub role_b : (process_at processes q).role ≡ (kind_at kinds kind).role_b
 
--- against an edge between two processes, all by their numbers
-abbrev pub JoinStands : List Process → List PairSpec → List Edge → ℕ → ℕ → ℕ → TextCause → Type 0
-JoinStands processes kinds edges p q kind cause =
-    ((cause ≡ SelfEdge) × (p ≡ q))
-    ⊎ (((cause ≡ EdgeTwice) × AreJoined edges p q)
-    ⊎ (((k : ℕ) × (cause ≡ DegreeOver k) × IsFirstCrowded edges p q k)
-    ⊎ ((cause ≡ RoleMismatch) × (AreOfKind processes kinds p q kind → ⊥))))
+-- DegreeOver: an edge at this process, which has 32 already
+abbrev pub Crowds : Said → SpecParts → ℕ → Type 0
+Crowds (edge_line p q kind) v k = AreDeclared v p q kind × IsFirstCrowded v.edges (number_in (process_names v.processes) p) (number_in (process_names v.processes) q) k
+Crowds item v k = ⊥
 
--- against an edge between two processes
-abbrev pub EdgeStands : List Process → List PairSpec → List Edge → List ℕ → List ℕ → List ℕ → TextCause → Type 0
-EdgeStands processes kinds edges p q kind cause =
-    UseStands (process_names processes) p cause
-    ⊎ (UseStands (process_names processes) q cause
-    ⊎ (UseStands (kind_names kinds) kind cause
-    ⊎ JoinStands processes kinds edges (number_in (process_names processes) p) (number_in (process_names processes) q) (number_in (kind_names kinds) kind) cause))
+-- RoleMismatch: an edge of which a process has another role than that of its side of the kind
+abbrev pub HasOtherRoles : Said → SpecParts → Type 0
+HasOtherRoles (edge_line p q kind) v = AreDeclared v p q kind × (AreOfKind v.processes v.kinds (number_in (process_names v.processes) p) (number_in (process_names v.processes) q) (number_in (kind_names v.kinds) kind) → ⊥)
+HasOtherRoles item v = ⊥
 
-abbrev pub LocalBlocks : Group → List ℕ → TextCause → Type 0
-LocalBlocks (in_locals n names) name cause = NameStands names 32 name cause
-LocalBlocks group name cause = ⊥
-
-abbrev pub StartBlocks : Group → List ℕ → TextCause → Type 0
-StartBlocks (in_locals n names) name cause = UseStands names name cause
-StartBlocks group name cause = ⊥
-
-abbrev pub ArcBlocks : Group → List ℕ → List ℕ → TextCause → Type 0
-ArcBlocks (in_arcs r) p q cause = ArcStands r.locals r.arcs p q cause
-ArcBlocks group p q cause = ⊥
-
-abbrev pub ClauseBlocks : List RoleParts → Group → List (List ℕ) → TextCause → Type 0
-ClauseBlocks roles (in_kind k) words cause = ClauseStands roles k words cause
-ClauseBlocks roles group words cause = ⊥
-
-abbrev pub EndBlocks : List RoleParts → Group → TextCause → Type 0
-EndBlocks roles (in_arcs r) cause = RoleEndStands r.locals r.arcs cause
-EndBlocks roles (in_kind k) cause = KindEndStands roles k cause
-EndBlocks roles group cause = ⊥
-
--- what stands against a line that may stand there
+-- what stands against a line that may stand there: these ten causes, each by its definition
 abbrev pub Blocks : State → Said → TextCause → Type 0
-Blocks s (role_line name) cause = NameStands (role_names s.parts.roles) 16 name cause
-Blocks s (local_line name) cause = LocalBlocks s.group name cause
-Blocks s (start_line name) cause = StartBlocks s.group name cause
-Blocks s (arc_line p q free) cause = ArcBlocks s.group p q cause
-Blocks s (kind_line name a b) cause = KindStands s.parts.roles s.parts.kinds name a b cause
-Blocks s (require_line words form) cause = ClauseBlocks s.parts.roles s.group words cause
-Blocks s end_line cause = EndBlocks s.parts.roles s.group cause
-Blocks s (process_line name r) cause = ProcessStands s.parts.roles s.parts.processes name r cause
-Blocks s (edge_line p q kind) cause = EdgeStands s.parts.processes s.parts.kinds s.parts.edges p q kind cause
-Blocks s item cause = ⊥
+Blocks s item cause =
+    ((cause ≡ UnknownName) × UsesUnknown item s.parts s.group)
+    ⊎ (((cause ≡ Twice) × DeclaresAgain item s.parts s.group)
+    ⊎ (((cause ≡ SelfArc) × JoinsItself item s.group)
+    ⊎ (((p : ℕ) × (cause ≡ NoArc p) × LeavesStuck item s.group p)
+    ⊎ (((limit : ℕ) × (cause ≡ TooMany limit) × GoesOver item s.parts s.group limit)
+    ⊎ (((cause ≡ ClosureOver) × HasLargeClosure item s.parts s.group)
+    ⊎ (((cause ≡ SelfEdge) × IsLoop item s.parts)
+    ⊎ (((cause ≡ EdgeTwice) × JoinsAgain item s.parts)
+    ⊎ (((k : ℕ) × (cause ≡ DegreeOver k) × Crowds item s.parts k)
+    ⊎ ((cause ≡ RoleMismatch) × HasOtherRoles item s.parts)))))))))
 
 -- a clause is spelled over the local states of the open kind's roles
 abbrev pub IsClauseSpelled : Said → List RoleParts → Group → Type 0
@@ -134,20 +131,29 @@ IsClauseSpelled item roles group = Unit {0}
 abbrev pub MaySay : State → List (List ℕ) → Said → Type 0
 MaySay s words item = Says words item × MayStand s.group item × IsClauseSpelled item s.parts.roles s.group
 
--- a clause is required that is too long
+-- BadHead: the first line that is not passed over, if it is no head
+pub record IsNoHead (s : State) (words : List (List ℕ)) : Type 0 where
+  pub first : s.group ≡ before_head
+  pub other : words ≢ words_for head_line
+
+-- Long: a clause is required that is too long
 abbrev pub IsLongLine : List (List ℕ) → Type 0
 IsLongLine [] = ⊥
 IsLongLine (word ∷ words) = (word ≡ codes "require") × IsLong (tokens_in words)
 
+-- BadLine: the words say nothing that may stand there
+abbrev pub SaysNothing : State → List (List ℕ) → Type 0
+SaysNothing s words = (item : Said) → MaySay s words item → ⊥
+
 -- what stands against a line of these words that is not passed over
 abbrev pub WordsStand : State → List (List ℕ) → TextCause → Type 0
 WordsStand s words cause =
-    ((cause ≡ BadHead) × (s.group ≡ before_head) × (words ≢ words_for head_line))
+    ((cause ≡ BadHead) × IsNoHead s words)
     ⊎ (((cause ≡ Long) × IsLongLine words)
-    ⊎ (((cause ≡ BadLine) × ((item : Said) → MaySay s words item → ⊥))
+    ⊎ (((cause ≡ BadLine) × SaysNothing s words)
     ⊎ ((item : Said) × MaySay s words item × Blocks s item cause)))
 
--- what stands against a line, below this state
+-- what stands against a line, below this state; NotText: it has a byte that is not allowed
 abbrev pub Stands : State → List ℕ → TextCause → Type 0
 Stands s line cause = ((cause ≡ NotText) × (IsText line → ⊥)) ⊎ ((ArePassed (words_of line) → ⊥) × WordsStand s (words_of line) cause)
 

@@ -5,12 +5,12 @@ use Rattle.text_cause.specs.declared.cause.TextCause.{TextCause}
 use Rattle.text_cause.specs.declared.cause.TextCause.TheVariants.{BadHead, Long, BadLine, UnknownName}
 use Rattle.text_cause.specs.declared.line_fault.LineFault.{LineFault}
 use Rattle.text_cause.specs.declared.line_fault.LineFault.TheVariants.{Bad, Memory}
-use Rattle.ctl_text.specs.Long.{IsLong}
+use Rattle.formula_text.specs.Long.{IsLong}
 use Rattle.ctl_text.specs.Required.{SpellsOver, AreKnownOver, IsUnspelled}
-use Rattle.ctl_text.specs.Sign.{Names}
+use Rattle.formula_text.specs.Sign.{Names}
 use Rattle.ctl_text.specs.Item.{Said, require_line, Says}
 use Rattle.ctl_text.specs.State.{State, Group, before_head, MayStand}
-use Rattle.ctl_text.specs.Text.{EndOfText}
+use Rattle.ctl_text.specs.Text.{EndStands}
 use Rattle.text_cause.specs.Cause.{IsLowest, IsFree}
 use Rattle.ctl_text.specs.Cause.{WordsStand, MaySay, Leaves}
 
@@ -50,4 +50,4 @@ CanSay group words item = Says words item × MayStand group item
 -- want of memory, or what stands against the end of a text below this group
 abbrev pub IsBadEnd : Group → LineFault → Type 0
 IsBadEnd group Memory = Unit {0}
-IsBadEnd group (Bad cause) = EndOfText group cause
+IsBadEnd group (Bad cause) = EndStands group cause

@@ -5,9 +5,9 @@ use Rattle.pair_structure.specs.Role.{RoleParts}
 use Rattle.ctl_form.specs.Form.{Form}
 use Rattle.ctl_form.specs.Kind.{whole_forms}
 use Rattle.ctl_form.specs.Numbered.{IsTooLarge}
-use Rattle.ctl_text.specs.Sign.{Names}
-use Rattle.ctl_text.specs.Token.{tokens_of}
-use Rattle.ctl_text.specs.Tree.{Spells, AreKnown, signs_of}
+use Rattle.formula_text.specs.Sign.{Names}
+use Rattle.formula_text.specs.Token.{tokens_of}
+use Rattle.formula_text.specs.Tree.{Spells, AreKnown, signs_of}
 
 -- the tokens of the words, in their order
 abbrev pub tokens_in : List (List ℕ) → List (List ℕ)

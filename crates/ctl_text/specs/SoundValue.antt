@@ -8,13 +8,13 @@ use Rattle.ctl_form.specs.Kind.{role_at}
 use Rattle.interconnection.specs.declared.parts.Process.{Process}
 use Rattle.interconnection.specs.Graph.{degree_of}
 use Rattle.interconnection.specs.Network.{AreLawful}
-use Rattle.ctl_text.specs.Canonical.{IsOver}
-use Rattle.ctl_text.specs.FormulaText.{Names, formula_text}
-use Rattle.ctl_text.specs.Long.{IsLong}
+use Rattle.formula_text.specs.Canonical.{IsOver}
+use Rattle.formula_text.specs.FormulaText.{Names, formula_text}
+use Rattle.formula_text.specs.Long.{IsLong}
 use Rattle.ctl_text.specs.Required.{IsClosureOver}
 use Rattle.ctl_text.specs.SpecText.{spec_text}
 use Rattle.ctl_text.specs.Text.{IsSpecText}
-use Rattle.ctl_text.specs.Token.{tokens_of}
+use Rattle.formula_text.specs.Token.{tokens_of}
 use Rattle.ctl_text.specs.Value.{SpecParts, role_names, kind_names, kind_ends, process_names}
 
 -- each name differs from those behind it
@@ -41,6 +41,11 @@ pub record IsNamedKind (roles : List RoleParts) (k : PairSpec) : Type 0 where
 pub record IsNamedProcess (count : ℕ) (p : Process) : Type 0 where
   pub name : IsName p.name
   pub role : p.role < count
+
+-- the two roles of a kind are among so many
+pub record IsOverRoles (count : ℕ) (k : PairSpec) : Type 0 where
+  pub role_a : k.role_a < count
+  pub role_b : k.role_b < count
 
 -- all that a specification keeps that is read of a text
 pub record IsSoundValue (v : SpecParts) : Type 0 where

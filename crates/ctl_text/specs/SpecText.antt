@@ -8,7 +8,7 @@ use Rattle.ctl_form.specs.Form.{Form}
 use Rattle.ctl_form.specs.Kind.{role_at}
 use Rattle.interconnection.specs.declared.parts.Process.{Process}
 use Rattle.interconnection.specs.declared.parts.Edge.{Edge}
-use Rattle.ctl_text.specs.FormulaText.{Names, name_at, formula_text}
+use Rattle.formula_text.specs.FormulaText.{Names, name_at, formula_text}
 use Rattle.ctl_text.specs.Item.{Said, head_line, role_line, local_line, start_line, arc_line, kind_line, end_line, process_line, edge_line, done_line, words_for}
 use Rattle.ctl_text.specs.Value.{SpecParts, kind_at, process_at}
 

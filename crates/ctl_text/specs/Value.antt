@@ -1,5 +1,6 @@
 -- What a specification says, as a value.
 use Rattle.std.specs.Prelude.{ℕ, ◌≡◌, ◌⊎◌, List, [], map, position, Any, Option, Some, None, slice_index_or}
+use Rattle.std.specs.Option.{unwrap_or}
 use Rattle.std.specs.Str.{bytes_eq}
 use Rattle.pair_structure.specs.Role.{RoleParts}
 use Rattle.ctl_form.specs.declared.pair_spec.PairSpec.{PairSpec}
@@ -31,13 +32,9 @@ network_of v = record { roles = v.roles; ends = kind_ends v.kinds; processes = v
 abbrev pub process_names : List Process → List (List ℕ)
 process_names = map (λ p. p.name)
 
-abbrev pub or_zero : Option ℕ → ℕ
-or_zero None = 0
-or_zero (Some n) = n
-
--- the number of a name among these
+-- the number of a name among these, and 0 where there is none
 abbrev pub number_in : List (List ℕ) → List ℕ → ℕ
-number_in names name = or_zero (position (λ x. bytes_eq x name) names)
+number_in names name = unwrap_or (position (λ x. bytes_eq x name) names) 0
 
 -- some edge is between the two processes, whichever is its side a
 abbrev pub AreJoined : List Edge → ℕ → ℕ → Type 0

@@ -1,9 +1,10 @@
 ghost use Rattle.std.specs.Prelude.{IfOk, IfSome, IfNone};
 ghost use Rattle.text_cause.specs.Cause.{IsLowest, IsFree};
-ghost use Rattle.ctl_text.specs.Cause.{Blocks, LocalBlocks, StartBlocks, ArcBlocks, EndBlocks};
+ghost use Rattle.ctl_text.specs.LineCause.{LineBlocks, LocalBlocks, StartBlocks, ArcBlocks, EndBlocks};
 ghost use Rattle.ctl_text.specs.Sound.{IsSound, HasItsRoles, IsSoundState};
 ghost use Rattle.ctl_text.specs.View.{group_of, state_of, said};
 
+use text_cause::TextCause;
 use crate::closure_count::is_closure_over;
 use crate::graph_cause::{edge_cause, kind_cause, process_cause};
 use crate::item::Item;
@@ -11,7 +12,6 @@ use crate::place::{Place, Reader};
 use crate::role_cause::{arc_cause, local_cause, role_cause, role_end_cause, start_cause};
 use pair_structure::{Memory, Role};
 use std::alloc::Global;
-use text_cause::TextCause;
 
 /// What stands against a line that may stand there.
 pub(crate) fn blocked(
@@ -20,8 +20,8 @@ pub(crate) fn blocked(
     item: Item<'_>,
 ) -> Result<Option<TextCause>, Memory>
     requires { IsSoundState (state_of reader.now) }
-    ensures some { IfOk result (λ found. IfSome found (IsLowest (Blocks (state_of reader.now) (said item.entry)))) }
-    ensures none { IfOk result (λ found. IfNone found (IsFree (Blocks (state_of reader.now) (said item.entry)))) }
+    ensures some { IfOk result (λ found. IfSome found (IsLowest (LineBlocks (state_of reader.now) (said item.entry)))) }
+    ensures none { IfOk result (λ found. IfNone found (IsFree (LineBlocks (state_of reader.now) (said item.entry)))) }
 {
     match item {
         Item::Role(name) => Ok(role_cause(&reader.roles, name)),

@@ -3,22 +3,20 @@ ghost use Rattle.ctl_form.specs.Form.{form_of};
 ghost use Rattle.ctl_form.specs.Kind.{role_at};
 ghost use Rattle.text_cause.specs.Answers.{IsBadBy};
 ghost use Rattle.ctl_text.specs.Judged.{IsTakenAs, IsClauseOf, IsSpelledOver, SpellingStands};
-ghost use Rattle.ctl_text.specs.Long.{IsLong};
+ghost use Rattle.formula_text.specs.Long.{IsLong};
 ghost use Rattle.ctl_text.specs.Required.{tokens_in};
 ghost use Rattle.ctl_text.specs.State.{with_form};
 ghost use Rattle.ctl_text.specs.Cause.{WordsStand};
 ghost use Rattle.ctl_text.specs.Sound.{IsSoundState};
 ghost use Rattle.ctl_text.specs.View.{group_of, state_of};
 
-use crate::FormulaFault;
-use crate::formula_reader::read_formula;
-use crate::long::is_long;
+use text_cause::{LineFault, TextCause};
+use crate::grown::with_form;
 use crate::place::{Place, Reader};
-use crate::token::tokens_of;
 use ctl_form::Formula;
+use formula_text::{FormulaFault, is_long, read_formula, tokens_of};
 use pair_structure::{Memory, Name, Role};
 use std::alloc::{AllocError, Global};
-use text_cause::{LineFault, TextCause};
 
 /// What stands below a line that requires a clause, of these words behind `require`.
 pub(crate) fn take_clause(
@@ -122,46 +120,11 @@ fn are_long(alloc: Global, words: &[&[u8]]) -> Result<bool, Memory>
 }
 
 /// The open kind with one more clause.
-fn with_formula(reader: Reader, formula: Formula) -> Result<Reader, AllocError>
+fn with_formula(mut reader: Reader, formula: Formula) -> Result<Reader, AllocError>
     requires { IsSoundState (state_of reader) }
     ensures grown { IfOk result (λ r. state_of r ≡ record { parts = (state_of reader).parts; group = with_form (group_of reader.place) (form_of formula) }) }
     ensures sound { IfOk result (λ r. IsSoundState (state_of r)) }
 {
-    let Reader {
-        roles,
-        kinds,
-        processes,
-        edges,
-        place,
-    } = reader;
-    let place = with_form(place, formula)?;
-    Ok(Reader {
-        roles,
-        kinds,
-        processes,
-        edges,
-        place,
-    })
-}
-
-fn with_form(place: Place, formula: Formula) -> Result<Place, AllocError>
-    ensures { IfOk result (λ p. group_of p ≡ with_form (group_of place) (form_of formula)) }
-{
-    match place {
-        Place::InKind {
-            name,
-            role_a,
-            role_b,
-            mut clauses,
-        } => {
-            clauses.push(formula)?;
-            Ok(Place::InKind {
-                name,
-                role_a,
-                role_b,
-                clauses,
-            })
-        }
-        other => Ok(other),
-    }
+    reader.place = with_form(reader.place, formula)?;
+    Ok(reader)
 }

@@ -1,15 +1,16 @@
 ghost use Rattle.std.specs.Prelude.{◌≡◌, ◌↔◌, ◌<◌, ◌≤◌, ℕ, IsTrue, IfSome, IfNone, Contains, length};
 ghost use Rattle.ctl_text.specs.Value.{role_names, kind_names, process_names, number_in, process_at, kind_at};
 ghost use Rattle.text_cause.specs.Cause.{IsLowest, IsFree};
-ghost use Rattle.ctl_text.specs.Cause.{NameStands, KindStands, ProcessStands, JoinStands, EdgeStands, IsCrowded, IsFirstCrowded, AreOfKind};
+ghost use Rattle.ctl_text.specs.Cause.{IsCrowded, IsFirstCrowded, AreOfKind};
+ghost use Rattle.ctl_text.specs.LineCause.{NameStands, KindStands, ProcessStands, JoinStands, EdgeStands};
 
+use text_cause::TextCause;
 use crate::edges::Edges;
 use crate::names::{has_kind, has_process, has_role, kind_number, process_number};
 use crate::processes::Processes;
 use ctl_form::PairSpec;
 use interconnection::Process;
 use pair_structure::Role;
-use text_cause::TextCause;
 
 const MAX_KINDS: usize = 16;
 

@@ -7,34 +7,26 @@ mod blocked;
 mod clause;
 mod closure_count;
 mod edges;
-mod formula_fault;
-mod formula_laws;
-mod formula_parser;
-mod formula_reader;
-mod formula_writer;
 mod graph_cause;
+mod grown;
 mod item;
 mod laws;
 mod line;
-mod long;
 mod names;
 mod place;
 mod processes;
 mod read;
 mod role_cause;
-mod sign;
 mod spec;
 mod spec_laws;
 mod spec_writer;
 mod take;
-mod token;
-mod token_sign;
 
-pub use formula_fault::FormulaFault;
-pub use formula_laws::{canonical_is_formula, is_spelled_once};
+pub use formula_text::{
+    FormulaFault, Leaf, Mark, Prefix, Sign, canonical_is_formula, is_spelled_once,
+};
 pub use laws::never_both;
 pub use read::read_spec;
-pub use sign::{Leaf, Mark, Prefix, Sign};
 pub use spec::Spec;
 pub use spec_laws::canonical_is_spec_text;
 pub use spec_writer::write_spec;

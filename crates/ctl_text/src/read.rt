@@ -1,14 +1,18 @@
-ghost use Rattle.std.specs.Prelude.{◌≡◌, ℕ, IfOk, IfErr, MatchResult, length, map, ◌<◌, ◌≤◌, ◌^◌};
+ghost use Rattle.std.specs.Prelude.{◌≡◌, ℕ, IfOk, IfErr, MatchResult, All, length, map, ◌<◌, ◌≤◌, ◌^◌};
 ghost use Rattle.interconnection.specs.Graph.{degree_of};
 ghost use Rattle.interconnection.specs.Network.{AreLawful};
 ghost use Rattle.ctl_text.specs.Value.{SpecParts, kind_ends};
-ghost use Rattle.ctl_text.specs.Text.{IsSpecText, Gives};
+ghost use Rattle.ctl_text.specs.Text.{IsSpecText, IsRefused, Gives};
 ghost use Rattle.ctl_text.specs.Judged.{IsBadEnd};
+ghost use Rattle.ctl_text.specs.SoundValue.{IsOverRoles};
 ghost use Rattle.ctl_text.specs.Sound.{IsSoundState};
 ghost use Rattle.ctl_text.specs.View.{state_of};
+ghost use Rattle.text_cause.specs.declared.cause.TextCause.{TextCause};
+ghost use Rattle.text_cause.specs.Answers.{IsFaultAt};
 ghost use Rattle.ctl_text.specs.Answers.{IsRefusal};
 ghost use Rattle.ctl_text.specs.Made.{value_of, HasEnds};
 
+use text_cause::{LineFault, TextCause, TextFault};
 use crate::edges::Edges;
 use crate::line::cut_line;
 use crate::place::{Place, Reader};
@@ -19,7 +23,6 @@ use ctl_form::PairSpec;
 use interconnection::{Edge, Network, NetworkFault, Process};
 use pair_structure::{Memory, Role};
 use std::alloc::Global;
-use text_cause::{LineFault, TextCause, TextFault};
 
 /// What a text makes: the network of its processes, and its kinds of pairs.
 #[derive(Drop)]
@@ -33,6 +36,8 @@ pub fn read_spec(alloc: Global, bytes: &[u8]) -> Result<Spec, TextFault>
     ensures text { IfOk result (λ spec. IsSpecText bytes.now spec) }
     ensures refused { IfErr result (IsRefusal bytes.now) }
     ensures only { (v : SpecParts) → IsSpecText bytes.now v → MatchResult result (λ spec. spec ≡ v) (λ fault. fault ≡ TextFault.Memory) }
+    ensures refused_only { (at : ℕ) (cause : TextCause) → IsRefused bytes.now at cause → MatchResult result (λ spec. ⊥) (IsFaultAt at cause) }
+    ensures roles { IfOk result (λ spec. All (IsOverRoles (length spec.roles)) spec.kinds) }
 {
     match read_text(alloc, bytes) {
         Ok(Made { network, kinds }) => Ok(Spec::of(network, kinds)),

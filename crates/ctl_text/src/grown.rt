@@ -1,0 +1,137 @@
+ghost use Rattle.std.specs.Prelude.{◌≡◌, ◌<◌, ◌≤◌, ◌∷◌, [], ◌++◌, ◌^◌, IfOk, length};
+ghost use Rattle.pair_structure.specs.Name.{IsName};
+ghost use Rattle.ctl_form.specs.Form.{form_of};
+ghost use Rattle.ctl_text.specs.Item.{start_line};
+ghost use Rattle.ctl_text.specs.State.{MayStand, with_local, with_start, with_arc, with_form, opened_kind};
+ghost use Rattle.text_cause.specs.Cause.{IsFree};
+ghost use Rattle.ctl_text.specs.LineCause.{LocalBlocks, ArcBlocks};
+ghost use Rattle.ctl_text.specs.Sound.{IsSound};
+ghost use Rattle.ctl_text.specs.View.{group_of};
+
+use crate::names::{local_number, name_of, role_number};
+use crate::place::Place;
+use ctl_form::Formula;
+use pair_structure::{LocalArc, Role};
+use std::alloc::{AllocError, Global};
+
+/// An open role with one more local state.
+pub(crate) fn with_local(alloc: Global, place: Place, name: &[u8]) -> Result<Place, AllocError>
+    requires sound { IsSound (group_of place) }
+    requires free { IsFree (LocalBlocks (group_of place) name.now) }
+    requires name { IsName name.now }
+    ensures place { IfOk result (λ p. group_of p ≡ with_local (group_of place) name.now) }
+    ensures sound { IfOk result (λ p. IsSound (group_of p)) }
+{
+    match place {
+        Place::InLocals {
+            name: role,
+            mut locals,
+        } => {
+            locals.push(name_of(alloc, name)?)?;
+            Ok(Place::InLocals { name: role, locals })
+        }
+        other => Ok(other),
+    }
+}
+
+/// An open role with its start, ready for arcs.
+pub(crate) fn with_start(alloc: Global, place: Place, name: &[u8]) -> Place
+    requires sound { IsSound (group_of place) }
+    requires may { MayStand (group_of place) (start_line name.now) }
+    ensures place { group_of result ≡ with_start (group_of place) name.now }
+    ensures sound { IsSound (group_of result) }
+{
+    match place {
+        Place::InLocals { name: role, locals } => {
+            let start = local_number(&locals, name) as u8;
+            let arcs = Vec::new(alloc);
+            Place::InArcs {
+                name: role,
+                locals,
+                start,
+                arcs,
+            }
+        }
+        other => other,
+    }
+}
+
+/// An open role with one more arc.
+pub(crate) fn with_arc(
+    place: Place,
+    from: &[u8],
+    to: &[u8],
+    free: bool,
+) -> Result<Place, AllocError>
+    requires sound { IsSound (group_of place) }
+    requires free { IsFree (ArcBlocks (group_of place) from.now to.now) }
+    ensures place { IfOk result (λ p. group_of p ≡ with_arc (group_of place) from.now to.now free) }
+    ensures sound { IfOk result (λ p. IsSound (group_of p)) }
+{
+    match place {
+        Place::InArcs {
+            name,
+            locals,
+            start,
+            mut arcs,
+        } => {
+            let from = local_number(&locals, from) as u8;
+            let to = local_number(&locals, to) as u8;
+            arcs.push(LocalArc { from, to, free })?;
+            Ok(Place::InArcs {
+                name,
+                locals,
+                start,
+                arcs,
+            })
+        }
+        other => Ok(other),
+    }
+}
+
+/// A kind over these roles, with no clause so far.
+pub(crate) fn opened_kind(
+    alloc: Global,
+    roles: &[Role],
+    name: &[u8],
+    a: &[u8],
+    b: &[u8],
+) -> Result<Place, AllocError>
+    requires few { length roles.now ≤ 16 }
+    requires name { IsName name.now }
+    ensures { IfOk result (λ p. group_of p ≡ opened_kind roles.now name.now a.now b.now) }
+{
+    let name = name_of(alloc, name)?;
+    let role_a = role_number(roles, a) as u8;
+    let role_b = role_number(roles, b) as u8;
+    let clauses = Vec::new(alloc);
+    Ok(Place::InKind {
+        name,
+        role_a,
+        role_b,
+        clauses,
+    })
+}
+
+/// An open kind with one more clause.
+pub(crate) fn with_form(place: Place, formula: Formula) -> Result<Place, AllocError>
+    ensures { IfOk result (λ p. group_of p ≡ with_form (group_of place) (form_of formula)) }
+{
+    match place {
+        Place::InKind {
+            name,
+            role_a,
+            role_b,
+            mut clauses,
+        } => {
+            clauses.push(formula)?;
+            Ok(Place::InKind {
+                name,
+                role_a,
+                role_b,
+                clauses,
+            })
+        }
+        other => Ok(other),
+    }
+}

@@ -1,0 +1,12 @@
+pub mod Canonical
+pub mod CanonicalSigns
+pub mod ClausesOver
+pub mod LongLaws
+pub mod ReadAgain
+pub mod ReadTakes
+pub mod ReadingRules
+pub mod RoleNames
+pub mod SignRows
+pub mod Spelled
+pub mod TokenLaws
+pub mod Weights

@@ -1,0 +1,190 @@
+ghost use Rattle.std.specs.Prelude.{◌≡◌, ◌≤◌, ◌<◌, true, false, length, map, position, IfSome, IfOk};
+ghost use Rattle.std.specs.List.{list_all};
+ghost use Rattle.std.specs.Option.{option_map};
+ghost use Rattle.std.specs.Str.{bytes_eq};
+ghost use Rattle.pair_structure.specs.Name.{is_name_byte};
+ghost use Rattle.formula_text.specs.Sign.{sign_of, word_sign, said_in, path_words, words, marks, is_name, number_of, behind_dot, atom_sign};
+ghost use Rattle.formula_text.specs.declared.sign.Sign.TheVariants.{Other};
+
+use crate::sign::{Leaf, Mark, Prefix, Sign};
+use pair_structure::{Memory, Name, Side};
+use std::alloc::Global;
+
+/// What each of these tokens says, over the names of the two roles' local states.
+pub(crate) fn signs_of(
+    alloc: Global,
+    a: &[Name],
+    b: &[Name],
+    tokens: &[&[u8]],
+) -> Result<Vec<Sign>, Memory>
+    requires few_a { length a.now ≤ 32 }
+    requires few_b { length b.now ≤ 32 }
+    ensures { IfOk result (λ signs. signs.items ≡ map (sign_of a.now b.now) (map (λ t. t.now) tokens.now)) }
+{
+    let mut signs = Vec::with_capacity(alloc, tokens.len())?;
+    for token in tokens {
+        signs.push(sign_of(a, b, token))?;
+    }
+    Ok(signs)
+}
+
+/// What this token says, over the names of the two roles' local states.
+fn sign_of(a: &[Name], b: &[Name], token: &[u8]) -> Sign
+    requires few_a { length a.now ≤ 32 }
+    requires few_b { length b.now ≤ 32 }
+    ensures { result ≡ sign_of a.now b.now token.now }
+{
+    if let Some(name) = behind_dot(b'a', token) {
+        return atom_sign(Side::A, a, name);
+    }
+    if let Some(name) = behind_dot(b'b', token) {
+        return atom_sign(Side::B, b, name);
+    }
+    word_sign(token)
+}
+
+/// What stands behind this letter and a dot.
+fn behind_dot(letter: u8, token: &[u8]) -> Option<&[u8]>
+    ensures { option_map (λ name. name.now) result ≡ behind_dot letter token.now }
+{
+    match token {
+        [first, dot, name @ ..] => {
+            if *first == letter && *dot == b'.' {
+                Some(name)
+            } else {
+                None
+            }
+        }
+        _ => None,
+    }
+}
+
+fn atom_sign(side: Side, names: &[Name], name: &[u8]) -> Sign
+    requires { length names.now ≤ 32 }
+    ensures { result ≡ atom_sign side names.now name.now }
+{
+    if !is_name(name) {
+        return Sign::Other;
+    }
+    match number_of(names, name) {
+        Some(local) => Sign::Alone(Leaf::At {
+            side,
+            local: Some(local as u8),
+        }),
+        None => Sign::Alone(Leaf::At { side, local: None }),
+    }
+}
+
+fn is_name(bytes: &[u8]) -> bool
+    ensures { result ≡ is_name bytes.now }
+{
+    match bytes {
+        [] => false,
+        [first, rest @ ..] => {
+            first.is_ascii_alphabetic() && rest.len() <= 15 && are_name_bytes(rest)
+        }
+    }
+}
+
+fn are_name_bytes(bytes: &[u8]) -> bool
+    ensures { result ≡ list_all is_name_byte bytes.now }
+{
+    bytes.iter().all(|b| is_name_byte(*b))
+}
+
+fn is_name_byte(b: u8) -> bool
+    ensures { result ≡ is_name_byte b }
+{
+    b.is_ascii_alphanumeric() || b == b'_'
+}
+
+/// The number of a name among these.
+fn number_of(names: &[Name], name: &[u8]) -> Option<usize>
+    ensures number { result ≡ number_of names.now name.now }
+    ensures within { IfSome result (λ n. n < length names.now) }
+{
+    names.iter().position(|x| x.as_str().as_bytes() == name)
+}
+
+fn word_sign(token: &[u8]) -> Sign
+    ensures { result ≡ word_sign token.now }
+{
+    match token {
+        [] => Sign::Other,
+        [first, rest @ ..] => {
+            if *first == b'A' {
+                path_sign(true, rest)
+            } else if *first == b'E' {
+                path_sign(false, rest)
+            } else {
+                plain_sign(token)
+            }
+        }
+    }
+}
+
+fn path_sign(all: bool, rest: &[u8]) -> Sign
+    ensures { result ≡ said_in (path_words all) Other rest.now }
+{
+    if rest == b"".as_slice() {
+        Sign::Path { all }
+    } else if rest == b"X".as_slice() {
+        Sign::Before(Prefix::Next { all, side: None })
+    } else if rest == b"Xa".as_slice() {
+        Sign::Before(Prefix::Next {
+            all,
+            side: Some(Side::A),
+        })
+    } else if rest == b"Xb".as_slice() {
+        Sign::Before(Prefix::Next {
+            all,
+            side: Some(Side::B),
+        })
+    } else if rest == b"G".as_slice() {
+        Sign::Before(Prefix::Always { all })
+    } else if rest == b"F".as_slice() {
+        Sign::Before(Prefix::Sometime { all })
+    } else {
+        Sign::Other
+    }
+}
+
+fn plain_sign(token: &[u8]) -> Sign
+    ensures { result ≡ said_in words (said_in marks Other token.now) token.now }
+{
+    if token == b"true".as_slice() {
+        Sign::Alone(Leaf::Yes)
+    } else if token == b"false".as_slice() {
+        Sign::Alone(Leaf::No)
+    } else if token == b"!".as_slice() {
+        Sign::Before(Prefix::Not)
+    } else if token == b"(".as_slice() {
+        Sign::Open
+    } else if token == b"U".as_slice() {
+        Sign::Until { weak: false }
+    } else if token == b"W".as_slice() {
+        Sign::Until { weak: true }
+    } else {
+        mark_sign(token)
+    }
+}
+
+fn mark_sign(token: &[u8]) -> Sign
+    ensures { result ≡ said_in marks Other token.now }
+{
+    if token == b"&".as_slice() {
+        Sign::Behind(Mark::And)
+    } else if token == b"|".as_slice() {
+        Sign::Behind(Mark::Or)
+    } else if token == b"->".as_slice() {
+        Sign::Behind(Mark::Arrow)
+    } else if token == b")".as_slice() {
+        Sign::Behind(Mark::Close)
+    } else if token == b"[".as_slice() {
+        Sign::Behind(Mark::Left)
+    } else if token == b"]".as_slice() {
+        Sign::Behind(Mark::Right)
+    } else {
+        Sign::Other
+    }
+}
