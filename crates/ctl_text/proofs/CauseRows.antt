@@ -8,8 +8,8 @@ use Rattle.interconnection.specs.declared.parts.Edge.{Edge}
 use Rattle.ctl_text.specs.declared.cause.TextCause.{TextCause}
 use Rattle.ctl_text.specs.declared.cause.TextCause.TheVariants.{UnknownName, Twice, SelfArc, TooMany, SelfEdge, EdgeTwice, DegreeOver, RoleMismatch}
 use Rattle.ctl_text.specs.Value.{role_names, kind_names, process_names, number_in, AreJoined}
-use Rattle.ctl_text.specs.Cause.{IsLowest, IsFree, IsFirstCrowded, IsCrowded, AreOfKind, cause_no}
-use Rattle.ctl_text.specs.LineCause.{NameStands, UseStands, ArcStands, JoinStands, EdgeStands}
+use Rattle.ctl_text.specs.Cause.{IsLowest, IsFree, IsFirstCrowded, IsCrowded, AreOfKind, cause_no, UseStands}
+use Rattle.ctl_text.specs.LineCause.{NameStands, ArcStands, JoinStands, EdgeStands}
 use Rattle.ctl_text.proofs.Lowest.{Row, Or, From, from_row, from_or, row_lowest, row_free, or_free, or_left, or_right}
 
 abbrev Declared : List (List ℕ) → List ℕ → TextCause → Type 0
