@@ -21,6 +21,10 @@ use Rattle.ctl_text.specs.State.{Group, before_head, in_locals, in_arcs, in_kind
 abbrev pub IsUnknown : List (List ℕ) → List ℕ → Type 0
 IsUnknown names name = Contains names name → ⊥
 
+-- against a name that is used below these
+abbrev pub UseStands : List (List ℕ) → List ℕ → TextCause → Type 0
+UseStands names name cause = (cause ≡ UnknownName) × (Contains names name → ⊥)
+
 abbrev pub UsesUnknown : Said → SpecParts → Group → Type 0
 UsesUnknown (start_line n) v (in_locals name names) = IsUnknown names n
 UsesUnknown (arc_line p q free) v (in_arcs r) = IsUnknown r.locals p ⊎ IsUnknown r.locals q

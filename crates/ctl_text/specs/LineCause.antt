@@ -8,7 +8,7 @@ use Rattle.interconnection.specs.declared.parts.Process.{Process}
 use Rattle.interconnection.specs.declared.parts.Edge.{Edge}
 use Rattle.text_cause.specs.declared.cause.TextCause.{TextCause}
 use Rattle.text_cause.specs.declared.cause.TextCause.TheVariants.{UnknownName, Twice, SelfArc, NoArc, TooMany, ClosureOver, SelfEdge, EdgeTwice, DegreeOver, RoleMismatch}
-use Rattle.ctl_text.specs.Cause.{IsFirstStuck, IsFirstCrowded, AreOfKind}
+use Rattle.ctl_text.specs.Cause.{UseStands, IsFirstStuck, IsFirstCrowded, AreOfKind}
 use Rattle.ctl_text.specs.Required.{tokens_in, AreKnownOver, IsClosureOver}
 use Rattle.ctl_text.specs.Item.{Said, role_line, local_line, start_line, arc_line, kind_line, require_line, end_line, process_line, edge_line}
 use Rattle.ctl_text.specs.Value.{role_names, kind_names, process_names, number_in, AreJoined}
@@ -17,10 +17,6 @@ use Rattle.ctl_text.specs.State.{Group, in_locals, in_arcs, in_kind, State}
 -- against a name that is declared below these, of which there may be so many
 abbrev pub NameStands : List (List ℕ) → ℕ → List ℕ → TextCause → Type 0
 NameStands names most name cause = ((cause ≡ Twice) × Contains names name) ⊎ ((cause ≡ TooMany most) × (most ≤ length names))
-
--- against a name that is used below these
-abbrev pub UseStands : List (List ℕ) → List ℕ → TextCause → Type 0
-UseStands names name cause = (cause ≡ UnknownName) × (Contains names name → ⊥)
 
 -- against an arc between local states of an open role with these arcs
 abbrev pub ArcStands : List (List ℕ) → List LocalArc → List ℕ → List ℕ → TextCause → Type 0

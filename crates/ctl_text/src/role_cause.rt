@@ -2,7 +2,8 @@ ghost use Rattle.std.specs.Prelude.{◌≡◌, ◌↔◌, ◌<◌, ◌≤◌, Is
 ghost use Rattle.pair_structure.specs.Role.{HasArc, HasArcFrom};
 ghost use Rattle.ctl_text.specs.Value.{role_names, number_in};
 ghost use Rattle.text_cause.specs.Cause.{IsLowest, IsFree};
-ghost use Rattle.ctl_text.specs.LineCause.{NameStands, UseStands, ArcStands, RoleEndStands};
+ghost use Rattle.ctl_text.specs.Cause.{UseStands};
+ghost use Rattle.ctl_text.specs.LineCause.{NameStands, ArcStands, RoleEndStands};
 
 use text_cause::TextCause;
 use crate::names::{has_local, has_role, local_number};

@@ -9,7 +9,7 @@ use Rattle.ctl_form.specs.declared.pair_spec.PairSpec.{PairSpec}
 use Rattle.text_cause.specs.declared.cause.TextCause.{TextCause}
 use Rattle.text_cause.specs.declared.cause.TextCause.TheVariants.{UnknownName, NotAPair}
 use Rattle.text_cause.specs.Cause.{IsFree, LineStands}
-use Rattle.ctl_text.specs.LineCause.{UseStands}
+use Rattle.ctl_text.specs.Cause.{UseStands}
 use Rattle.strict_text.specs.Lines.{Line, IsStrict}
 use Rattle.strict_text.specs.Words.{words_of}
 use Rattle.solution_text.specs.Item.{Said, head_line, kind_line, state_line, end_line, words_for, Says}
