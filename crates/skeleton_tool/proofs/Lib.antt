@@ -15,9 +15,6 @@ pub mod Told
 pub mod Promised
 pub mod CommandWords
 pub mod OneRefusal
-pub mod OneSpecRefusal
-pub mod OneSolutionRefusal
-pub mod OneJournalRefusal
 pub mod OneText
 pub mod OneReplay
 pub mod OneAnswer

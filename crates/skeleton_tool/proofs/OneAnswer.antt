@@ -6,7 +6,7 @@ use Rattle.pair_structure.specs.Structure.{Structure}
 use Rattle.conjunctive_compose.specs.declared.wish.Wish.{Wish}
 use Rattle.conjunctive_compose.specs.System.{SystemParts}
 use Rattle.firing_journal.specs.Journal.{wishes_of}
-use Rattle.ctl_text.specs.declared.cause.TextCause.{TextCause}
+use Rattle.text_cause.specs.declared.cause.TextCause.{TextCause}
 use Rattle.ctl_text.specs.Value.{SpecParts}
 use Rattle.skeleton_tool.specs.declared.status.Status.{Status}
 use Rattle.skeleton_tool.specs.declared.status.Status.TheVariants.{Done, Usage, Refused, Unsatisfiable, Fails, ReadFault, WriteFault, OutOfMemory}
@@ -18,10 +18,8 @@ use Rattle.skeleton_tool.specs.Refusal.{refused_text}
 use Rattle.skeleton_tool.specs.Replay.{AnswersJournal, IsSystemOf, Replays, ReplaysWishes, journal_grammar}
 use Rattle.skeleton_tool.specs.Skel.{Skels}
 use Rattle.skeleton_tool.specs.Taking.{Files, ShelfSeen, IsUntaken, IsGiven}
-use Rattle.skeleton_tool.proofs.OneJournalRefusal.{journal_refused_once}
 use Rattle.skeleton_tool.proofs.OneReplay.{run_once, runs_through, stuck_once}
-use Rattle.skeleton_tool.proofs.OneSolutionRefusal.{solution_refused_once}
-use Rattle.skeleton_tool.proofs.OneSpecRefusal.{spec_refused_once}
+use Rattle.skeleton_tool.proofs.OneRefusal.{journal_refused_once, solution_refused_once, spec_refused_once}
 use Rattle.skeleton_tool.proofs.OneSystem.{one_system}
 use Rattle.skeleton_tool.proofs.OneText.{failing_once, never_solved, shown_once, unsolvable_once}
 use Rattle.skeleton_tool.proofs.Solved.{never_fails}

@@ -1,51 +1,37 @@
--- A line and the number of its cause make one refusal.
-use Rattle.std.proofs.Common.{ℕ, suc, ◌≡◌, ◌<◌, ◌∙◌, List, sym, ap, refl, arith, codes}
-use Rattle.std.specs.Prelude.{◌==◌, if◌then◌else◌}
-use Rattle.std.proofs.Math.Nat.{lt_of_not-le}
-use Rattle.ctl_text.specs.declared.cause.TextCause.{TextCause}
-use Rattle.ctl_text.specs.declared.cause.TextCause.TheVariants.{NotText, BadHead, Long, BadLine, UnknownName, Twice, SelfArc, NoArc, TooMany, ClosureOver, SelfEdge, EdgeTwice, DegreeOver, RoleMismatch, NotAPair, NotRising, Disagree}
-use Rattle.ctl_text.specs.Cause.{IsLowest, cause_no}
-use Rattle.skeleton_tool.specs.Refusal.{cause_word, refused_text}
+-- The bytes of a file are refused by one text.
+use Rattle.std.proofs.Common.{ℕ, ◌≡◌, List, refl}
+use Rattle.pair_structure.specs.Role.{RoleParts}
+use Rattle.ctl_form.specs.declared.pair_spec.PairSpec.{PairSpec}
+use Rattle.conjunctive_compose.specs.System.{SystemParts}
+use Rattle.text_cause.specs.declared.cause.TextCause.{TextCause}
+use Rattle.text_cause.specs.Grammar.{Grammar, IsRefused}
+use Rattle.text_cause.specs.Laws.{IsLawful, IsSameRefusal}
+use Rattle.text_cause.proofs.TextLaws.{one_refusal}
+use Rattle.ctl_text.specs.State.{first_state}
+use Rattle.ctl_text.specs.Text.{IsRefused as IsSpecRefused, specifications}
+use Rattle.ctl_text.proofs.TextLaws.{specifications_lawful}
+use Rattle.solution_text.specs.State.{first_state as first_of}
+use Rattle.solution_text.specs.Text.{IsRefused as IsSolutionRefused, solutions}
+use Rattle.solution_text.proofs.TextLaws.{solutions_lawful}
+use Rattle.firing_journal.specs.Place.{before_head}
+use Rattle.firing_journal.specs.Text.{IsRefused as IsJournalRefused, journals}
+use Rattle.firing_journal.proofs.Texts.{journals_lawful}
+use Rattle.skeleton_tool.specs.Refusal.{refused_text}
 
--- of two numbers neither is below the other
-pub same_if_neither : (a b : ℕ) → (a < b → ⊥) → (b < a → ⊥) → a ≡ b
-same_if_neither a b below above =
-    let le : b < suc a = lt_of_not-le below in
-    let ge : a < suc b = lt_of_not-le above in
-    omega arith
+-- one refusal has one text
+same_refusal : (word : List ℕ) (line at : ℕ) (c d : TextCause) → IsSameRefusal line at c d → refused_text word line c ≡ refused_text word at d
+same_refusal word line at c d same = rw (same.line_is, same.cause_is) refl
 
-pub lowest_once : (against : TextCause → Type 0) (c d : TextCause) → IsLowest against c → IsLowest against d → cause_no c ≡ cause_no d
-lowest_once against c d a b = same_if_neither (cause_no c) (cause_no d) (λ lt. b.lowest c lt a.stands) (λ lt. a.lowest d lt b.stands)
+refused_once : {State Line Value : Type 0} (g : Grammar State Line Value) (lawful : IsLawful g) (first : State) (word bytes : List ℕ) (line at : ℕ) (c d : TextCause)
+    → IsRefused g first bytes line c → IsRefused g first bytes at d → refused_text word line c ≡ refused_text word at d
+refused_once g lawful first word bytes line at c d a b = same_refusal word line at c d (one_refusal g lawful first bytes line at c d a b)
 
--- the name of a cause by its number
-abbrev word_at : ℕ → List ℕ
-word_at n =
-    if n == 1 then codes "NotText" else if n == 2 then codes "BadHead" else if n == 3 then codes "Long" else if n == 4 then codes "BadLine" else if n == 5 then codes "UnknownName" else
-    if n == 6 then codes "Twice" else if n == 7 then codes "SelfArc" else if n == 8 then codes "NoArc" else if n == 9 then codes "TooMany" else if n == 10 then codes "ClosureOver" else
-    if n == 11 then codes "SelfEdge" else if n == 12 then codes "EdgeTwice" else if n == 13 then codes "DegreeOver" else if n == 14 then codes "RoleMismatch" else if n == 15 then codes "NotAPair" else
-    if n == 16 then codes "NotRising" else codes "Disagree"
+pub spec_refused_once : (word bytes : List ℕ) (line at : ℕ) (c d : TextCause) → IsSpecRefused bytes line c → IsSpecRefused bytes at d → refused_text word line c ≡ refused_text word at d
+spec_refused_once word bytes line at c d a b = refused_once specifications specifications_lawful first_state word bytes line at c d a b
 
-word_at-cause_no : (c : TextCause) → word_at (cause_no c) ≡ cause_word c
-word_at-cause_no NotText = refl
-word_at-cause_no BadHead = refl
-word_at-cause_no Long = refl
-word_at-cause_no BadLine = refl
-word_at-cause_no UnknownName = refl
-word_at-cause_no Twice = refl
-word_at-cause_no SelfArc = refl
-word_at-cause_no (NoArc p) = refl
-word_at-cause_no (TooMany limit) = refl
-word_at-cause_no ClosureOver = refl
-word_at-cause_no SelfEdge = refl
-word_at-cause_no EdgeTwice = refl
-word_at-cause_no (DegreeOver k) = refl
-word_at-cause_no RoleMismatch = refl
-word_at-cause_no (NotAPair fault) = refl
-word_at-cause_no NotRising = refl
-word_at-cause_no Disagree = refl
+pub solution_refused_once : (roles : List RoleParts) (kinds : List PairSpec) (word bytes : List ℕ) (line at : ℕ) (c d : TextCause)
+    → IsSolutionRefused roles kinds bytes line c → IsSolutionRefused roles kinds bytes at d → refused_text word line c ≡ refused_text word at d
+solution_refused_once roles kinds word bytes line at c d a b = refused_once (solutions roles) (solutions_lawful roles) (first_of kinds) word bytes line at c d a b
 
--- a line and a cause's number make one text
-pub same_refusal : (word : List ℕ) (line at : ℕ) (c d : TextCause) → (line ≡ at) × (cause_no c ≡ cause_no d) → refused_text word line c ≡ refused_text word at d
-same_refusal word line at c d same =
-    let word_is : cause_word c ≡ cause_word d = sym (word_at-cause_no c) ∙ ap word_at same.1 ∙ word_at-cause_no d in
-    rw (same.0, word_is) refl
+pub journal_refused_once : (sys : SystemParts) (word bytes : List ℕ) (line at : ℕ) (c d : TextCause) → IsJournalRefused sys bytes line c → IsJournalRefused sys bytes at d → refused_text word line c ≡ refused_text word at d
+journal_refused_once sys word bytes line at c d a b = refused_once (journals sys) (journals_lawful sys) before_head word bytes line at c d a b

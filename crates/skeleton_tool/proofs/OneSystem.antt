@@ -7,7 +7,9 @@ use Rattle.pair_structure.specs.declared.side.LocalArc.{LocalArc}
 use Rattle.pair_structure.specs.Role.{RoleParts}
 use Rattle.pair_structure.specs.Structure.{Structure}
 use Rattle.skeleton_extract.specs.declared.command.Command.{Command}
-use Rattle.skeleton_extract.specs.Commands.{Lists, IsBelow, IsListed, IsRising, IsSkeleton, arcs_of, list_at, lists_of}
+use Rattle.pair_structure.specs.Lists.{list_at}
+use Rattle.pair_structure.specs.Sides.{arcs_of}
+use Rattle.skeleton_extract.specs.Commands.{Lists, IsBelow, IsListed, IsRising, IsSkeleton, lists_of}
 use Rattle.interconnection.specs.Network.{NetworkParts}
 use Rattle.conjunctive_compose.specs.System.{SystemParts, HasCommands, no_lists}
 use Rattle.ctl_text.specs.Value.{SpecParts}
@@ -73,7 +75,7 @@ same_side a b m one other side h k =
     let counted = k.has_lists.count side in
     same_lists (lists_of one side) (lists_of other side) (count ∙ sym counted)
     (λ arc d lt.
-    let within : arc < length (arcs_of a b side) = omega arith in
+    let within : arc < length (arcs_of side a b) = omega arith in
     let within' : arc < length (lists_of other side) = omega arith in
     get_or_default (lists_of one side) arc d [] lt ∙ same_listed m side _ (list_at (lists_of one side) arc) (list_at (lists_of other side) arc) (h.listed side arc within) (k.listed side arc within) ∙ sym (get_or_default (lists_of other side) arc d [] within'))
 

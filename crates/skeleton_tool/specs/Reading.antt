@@ -1,9 +1,9 @@
 -- How a file is read: its grammar, the one value that its bytes are a text of, or its first bad line.
 use Rattle.std.specs.Prelude.{ℕ, ◌≡◌, ◌⊎◌, List, Some}
 use Rattle.edge_io.specs.Told.{file_named}
-use Rattle.ctl_text.specs.declared.cause.TextCause.{TextCause}
-use Rattle.ctl_text.specs.declared.cause.TextFault.{TextFault}
-use Rattle.ctl_text.specs.declared.cause.TextFault.TheVariants.{At, Memory}
+use Rattle.text_cause.specs.declared.cause.TextCause.{TextCause}
+use Rattle.text_cause.specs.declared.cause.TextFault.{TextFault}
+use Rattle.text_cause.specs.declared.cause.TextFault.TheVariants.{At, Memory}
 use Rattle.skeleton_tool.specs.declared.status.Status.{Status}
 use Rattle.skeleton_tool.specs.declared.status.Status.TheVariants.{Refused}
 use Rattle.skeleton_tool.specs.Refusal.{refused_text}
