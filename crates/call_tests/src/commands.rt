@@ -1,7 +1,10 @@
 //! `plan` over files and an output in memory, of which a call may fail.
 
+ghost use Rattle.std.specs.Prelude.{All};
+ghost use Rattle.skeleton_tool.specs.Command.{asked_files, command_of, words_of};
+
 use crate::table::{agree, expect};
-use edge_io::{MemoryShelf, MemorySink};
+use edge_io::{MemoryShelf, MemorySink, Shelf, Sink};
 use samples::{PHIL, cut, long, to_lines, to_slashes};
 use skeleton_tool::plan;
 use std::alloc::Global;
@@ -16,7 +19,8 @@ const SOLUTION: &str =
 
 const JOURNAL: &str = "journal 1/entry 0 0 0 0 0/done/";
 
-/// The number of the call of the shelf that fails and that of the put that fails, and the words; then the status and what is written.
+/// The number of the call of the shelf that fails and that of the put that fails, and the words; then the status and
+/// what is written.
 const CALLS: &str = "9 9 prove spec sol = 0 solves/
 9 9 replay spec sol journal = 0 run 1/process p T 1/done/
 9 9 synth other = 5 read fault spec/
@@ -54,11 +58,16 @@ fn status(alloc: Global, words: &[String], shelf: &mut MemoryShelf, sink: &mut M
     plan(alloc, words, shelf, sink)
 }
 
-fn planned(alloc: Global, words: &str, shelf: u64, sink: u64) -> Result<String, Fail> {
+fn owned(alloc: Global, words: &str) -> Result<Vec<String>, Fail> {
     let mut owned = Vec::new(alloc);
     for word in words.split(' ') {
         owned.push(String::from_str(alloc, word)?)?;
     }
+    Ok(owned)
+}
+
+fn planned(alloc: Global, words: &str, shelf: u64, sink: u64) -> Result<String, Fail> {
+    let owned = owned(alloc, words)?;
     let mut shelf = MemoryShelf::new(files(alloc)?, vec![in alloc; shelf]?);
     let mut sink = MemorySink::new(alloc, 4_096, vec![in alloc; sink]?)?;
     let status = status(alloc, &owned, &mut shelf, &mut sink);
@@ -90,4 +99,35 @@ fn long_told(alloc: Global) -> Result<String, Fail> {
 fn answers_with_long_texts(rt: HostRuntime) -> Result<(), Fail> {
     let wanted = "0 solution 1/kind k/state N N; 0 skeleton 1/kind k/side a/arc N T/";
     agree(&rt, long_told(rt.alloc()), wanted)
+}
+
+/// The statuses of two calls on one shelf, one after the other, by a caller that knows the shelf by its trait alone.
+fn planned_twice<S: Shelf, K: Sink>(
+    alloc: Global,
+    first: &[String],
+    second: &[String],
+    shelf: &mut S,
+    sink: &mut K,
+) -> (u8, u8)
+    requires first { All (λ file. S.may_ask shelf.old file.0 file.1) (asked_files (command_of (words_of first.now))) }
+    requires second { All (λ file. S.may_ask shelf.old file.0 file.1) (asked_files (command_of (words_of second.now))) }
+{
+    let one = plan(alloc, first, shelf, sink);
+    let other = plan(alloc, second, shelf, sink);
+    (one, other)
+}
+
+/// `synth` and then `prove` of the same specification, on one shelf in memory.
+fn twice_told(alloc: Global) -> Result<String, Fail> {
+    let first = owned(alloc, "synth spec")?;
+    let second = owned(alloc, "prove spec sol")?;
+    let mut shelf = MemoryShelf::new(files(alloc)?, Vec::new(alloc));
+    let mut sink = MemorySink::new(alloc, 4_096, Vec::new(alloc))?;
+    let (one, other) = planned_twice(alloc, &first, &second, &mut shelf, &mut sink);
+    Ok(format!(in alloc; "{one} {other}")?)
+}
+
+#[test]
+fn answers_twice_on_one_shelf(rt: HostRuntime) -> Result<(), Fail> {
+    agree(&rt, twice_told(rt.alloc()), "0 0")
 }
