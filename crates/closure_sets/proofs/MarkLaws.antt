@@ -9,7 +9,7 @@ use Rattle.ctl_form.specs.declared.part.Part.TheVariants.{Yes, No, Lit, Both, Ei
 use Rattle.closure_sets.specs.ClosureParts.{ClosureParts, IsClosureParts, count}
 use Rattle.closure_sets.specs.Expansion.{lowest, is_shared, clashes}
 use Rattle.closure_sets.specs.Label.{part_of, form_of, value, wrong_of}
-use Rattle.closure_sets.specs.Marks.{AreValues, AreWrong, part_value, value_at}
+use Rattle.closure_sets.specs.inside.Marks.{AreValues, AreWrong, part_value, value_at}
 use Rattle.closure_sets.specs.Row.{Members, add}
 use Rattle.ctl_form.proofs.MemberLaws.{below_up}
 use Rattle.closure_sets.proofs.Closures.{form_is}

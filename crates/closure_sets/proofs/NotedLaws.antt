@@ -6,7 +6,7 @@ use Rattle.closure_sets.specs.Firsts.{Stands, IsNoted, AreNoted, AreFirsts}
 use Rattle.closure_sets.specs.Full.{EachRow, Among}
 use Rattle.closure_sets.specs.Label.{part_of, is_plain}
 use Rattle.closure_sets.specs.Row.{Members, add, set_of}
-use Rattle.closure_sets.specs.Ways.{ways_rows, with_row, treat_rows}
+use Rattle.closure_sets.specs.inside.Ways.{ways_rows, with_row, treat_rows}
 use Rattle.closure_sets.specs.declared.row.Row.{Row}
 use Rattle.closure_sets.specs.declared.ways.Ways.{Ways}
 

@@ -5,6 +5,5 @@ pub mod Firsts
 pub mod Found
 pub mod Full
 pub mod Label
-pub mod Marks
 pub mod Row
-pub mod Ways
+pub mod inside

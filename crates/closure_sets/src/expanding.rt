@@ -6,9 +6,9 @@ ghost use Rattle.closure_sets.specs.Firsts.{AreNoted, AreFirsts};
 ghost use Rattle.closure_sets.specs.Found.{sets_of};
 ghost use Rattle.closure_sets.specs.Full.{EachRow, IsExpansion};
 ghost use Rattle.closure_sets.specs.Label.{is_plain};
-ghost use Rattle.closure_sets.specs.Marks.{AreMarks};
+ghost use Rattle.closure_sets.specs.inside.Marks.{AreMarks};
 ghost use Rattle.closure_sets.specs.Row.{set_of, add};
-ghost use Rattle.closure_sets.specs.Ways.{ways_rows, treat_rows, with_row};
+ghost use Rattle.closure_sets.specs.inside.Ways.{ways_rows, treat_rows, with_row};
 
 use crate::found::Found;
 use crate::marks::Marks;

@@ -3,7 +3,7 @@ ghost use Rattle.ctl_form.specs.Members.{IsBelow};
 ghost use Rattle.closure_sets.specs.ClosureParts.{count};
 ghost use Rattle.closure_sets.specs.Expansion.{clashes};
 ghost use Rattle.closure_sets.specs.Label.{is_local, is_plain, is_wrong, is_yes, value_of_two, and_of, or_of};
-ghost use Rattle.closure_sets.specs.Marks.{AreMarks, AreValues, AreWrong, part_value, value_at};
+ghost use Rattle.closure_sets.specs.inside.Marks.{AreMarks, AreValues, AreWrong, part_value, value_at};
 ghost use Rattle.closure_sets.specs.Row.{add, set_of};
 
 use crate::{Closure, Row};

@@ -2,9 +2,9 @@ ghost use Rattle.std.specs.Prelude.{◌≡◌, ◌<◌, ◌≤◌, false, [], �
 ghost use Rattle.closure_sets.specs.ClosureParts.{count, after};
 ghost use Rattle.closure_sets.specs.Expansion.{ways, later_rows};
 ghost use Rattle.closure_sets.specs.Label.{is_plain, part_of};
-ghost use Rattle.closure_sets.specs.Marks.{AreMarks};
+ghost use Rattle.closure_sets.specs.inside.Marks.{AreMarks};
 ghost use Rattle.closure_sets.specs.Row.{add, set_of};
-ghost use Rattle.closure_sets.specs.Ways.{ways_rows};
+ghost use Rattle.closure_sets.specs.inside.Ways.{ways_rows};
 ghost use Rattle.ctl_form.specs.declared.part.Part.TheVariants.{Either, Until};
 ghost use Rattle.pair_structure.specs.declared.side.Side.TheVariants.{A, B};
 

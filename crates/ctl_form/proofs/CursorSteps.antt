@@ -3,7 +3,7 @@ use Rattle.std.proofs.Common.{ℕ, ◌≡◌, ◌≢◌, ◌<◌, ◌≤◌, Boo
 use Rattle.pair_structure.specs.declared.side.Move.{Move}
 use Rattle.pair_structure.specs.StructureFault.{move_at}
 use Rattle.ctl_form.specs.Row.{IsAt}
-use Rattle.ctl_form.specs.Spread.{AreCursors}
+use Rattle.ctl_form.specs.inside.Spread.{AreCursors}
 
 -- from this place on, each state's cursor stands at its first move
 pub record AreFirst (states : ℕ) (moves : List Move) (place : ℕ) (cursors : List ℕ) : Type 0 where

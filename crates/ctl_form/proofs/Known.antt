@@ -9,7 +9,7 @@ use Rattle.std.proofs.lemmas.Map.Lookups.{exact_bytes}
 use Rattle.pair_structure.specs.Structure.{Structure}
 use Rattle.ctl_form.specs.Code.{numbers, numbers_same}
 use Rattle.ctl_form.specs.Form.{Form}
-use Rattle.ctl_form.specs.Known.{AreKnown, code_cmp}
+use Rattle.ctl_form.specs.inside.Known.{AreKnown, code_cmp}
 use Rattle.ctl_form.specs.Row.{IsTruthOf}
 
 equal_of : (r : Ordering) → is_eq r ≡ true → r ≡ Equal

@@ -10,7 +10,7 @@ use Rattle.ctl_form.specs.Members.{part_at, form_at, literal, form_of_part, form
 use Rattle.ctl_form.specs.MemberTable.{IsNumbered, IsFaultOf, Numbers}
 use Rattle.ctl_form.specs.Normal.{normal}
 use Rattle.ctl_form.specs.Walk.{noted, noted_until, walk}
-use Rattle.ctl_form.specs.Walking.{turned, constant_part, constant, pair_part, pair, nexts, ever, once, lasting, release, Walks}
+use Rattle.ctl_form.specs.inside.Walking.{turned, constant_part, constant, pair_part, pair, nexts, ever, once, lasting, release, Walks}
 use Rattle.ctl_form.specs.declared.normal_fault.NormalFault.{NormalFault}
 use Rattle.ctl_form.specs.declared.normal_fault.NormalFault.TheVariants.{Over, Memory}
 use Rattle.ctl_form.specs.declared.part.Part.{Part}

@@ -7,7 +7,7 @@ use Rattle.pair_structure.specs.declared.side.Side.TheVariants.{A, B}
 use Rattle.pair_structure.specs.declared.side.Move.{Move}
 use Rattle.pair_structure.specs.Structure.{Structure, HasMove, Reaches, IsBefore, IsRising}
 use Rattle.pair_structure.specs.StructureFault.{move_at}
-use Rattle.ctl_form.specs.Spread.{AreInOrder}
+use Rattle.ctl_form.specs.inside.Spread.{AreInOrder}
 
 -- what `move_at` gives past the last move
 abbrev no_move : Move

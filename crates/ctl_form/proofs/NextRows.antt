@@ -6,7 +6,7 @@ use Rattle.pair_structure.specs.declared.side.Side.TheVariants.{A, B}
 use Rattle.pair_structure.specs.declared.side.Move.{Move}
 use Rattle.pair_structure.specs.Structure.{Structure, HasMove, GoesOn}
 use Rattle.pair_structure.specs.StructureFault.{move_at}
-use Rattle.ctl_form.specs.Next.{IsOf, SomeLeads}
+use Rattle.ctl_form.specs.inside.Next.{IsOf, SomeLeads}
 use Rattle.ctl_form.specs.Row.{IsAt, IsRowOf}
 use Rattle.ctl_form.specs.Truth.{AfterOne, After}
 use Rattle.ctl_form.proofs.MovePlaces.{has_move_at, move_of_side}

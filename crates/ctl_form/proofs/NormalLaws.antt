@@ -9,7 +9,7 @@ use Rattle.ctl_form.specs.MemberTable.{IsNumbering, IsFaultOf}
 use Rattle.ctl_form.specs.Normal.{normal}
 use Rattle.ctl_form.specs.NormalParts.{NormalParts, formula_of}
 use Rattle.ctl_form.specs.Numbered.{normals, RootsMean, IsNormalOf, IsTooLarge, IsRefusalOf}
-use Rattle.ctl_form.specs.Roots.{AreRoots}
+use Rattle.ctl_form.specs.inside.Roots.{AreRoots}
 use Rattle.ctl_form.specs.Truth.{Holds}
 use Rattle.ctl_form.specs.Walk.{walk_all, members_of}
 use Rattle.ctl_form.specs.declared.normal_fault.NormalFault.{NormalFault}

@@ -5,7 +5,7 @@ use Rattle.std.proofs.lemmas.List.{get_or_append_left, get_or_push}
 use Rattle.pair_structure.specs.declared.side.Move.{Move}
 use Rattle.pair_structure.specs.Structure.{Structure, Reaches}
 use Rattle.pair_structure.specs.StructureFault.{move_at}
-use Rattle.ctl_form.specs.Predecessors.{EndsAt, AreLinked, AddsSources, ArePartsOf}
+use Rattle.ctl_form.specs.inside.Predecessors.{EndsAt, AreLinked, AddsSources, ArePartsOf}
 use Rattle.ctl_form.proofs.MovePlaces.{reaches_by, move_of}
 
 -- a move that leads elsewhere

@@ -8,7 +8,7 @@ use Rattle.ctl_form.specs.Members.{form_at, forms_of}
 use Rattle.ctl_form.specs.MemberTable.{IsNumbered, IsFaultOf}
 use Rattle.ctl_form.specs.Normal.{normal}
 use Rattle.ctl_form.specs.Numbered.{normals}
-use Rattle.ctl_form.specs.Roots.{AreRoots}
+use Rattle.ctl_form.specs.inside.Roots.{AreRoots}
 use Rattle.ctl_form.specs.Walk.{walk, walk_all}
 use Rattle.ctl_form.specs.declared.formula.Formula.{Formula}
 use Rattle.ctl_form.specs.declared.normal_fault.NormalFault.{NormalFault}

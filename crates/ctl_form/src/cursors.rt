@@ -1,6 +1,6 @@
 ghost use Rattle.std.specs.Prelude.{◌≡◌, ◌<◌, ◌≤◌, ◌↔◌, ℕ, [], length, IsTrue, IfOk};
 ghost use Rattle.pair_structure.specs.StructureFault.{move_at};
-ghost use Rattle.ctl_form.specs.Spread.{AreInOrder, AreCursors, EachLeads, IsPassed};
+ghost use Rattle.ctl_form.specs.inside.Spread.{AreInOrder, AreCursors, EachLeads, IsPassed};
 
 use crate::BitRow;
 use pair_structure::{Memory, Move};

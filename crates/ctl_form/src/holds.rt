@@ -1,8 +1,8 @@
 ghost use Rattle.std.specs.Prelude.{◌≡◌, ◌↔◌, ℕ, length, true, IsTrue, IfOk, OnOk};
 ghost use Rattle.pair_structure.specs.Structure.{GoesOn};
 ghost use Rattle.ctl_form.specs.Form.{Form, form_of, always, sometime, until};
-ghost use Rattle.ctl_form.specs.Known.{AreKnown};
-ghost use Rattle.ctl_form.specs.Predecessors.{ArePredecessors};
+ghost use Rattle.ctl_form.specs.inside.Known.{AreKnown};
+ghost use Rattle.ctl_form.specs.inside.Predecessors.{ArePredecessors};
 ghost use Rattle.ctl_form.specs.Row.{IsAt, IsRowOf, IsTruthOf, local_of};
 ghost use Rattle.ctl_form.specs.Truth.{AlongPaths, HasLocal};
 

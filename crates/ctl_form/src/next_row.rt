@@ -2,7 +2,7 @@ ghost use Rattle.std.specs.Prelude.{◌≡◌, ◌<◌, ◌↔◌, length, true,
 ghost use Rattle.pair_structure.specs.Structure.{GoesOn};
 ghost use Rattle.ctl_form.specs.Form.{Form, next};
 ghost use Rattle.ctl_form.specs.Row.{IsAt, IsRowOf, IsTruthOf};
-ghost use Rattle.ctl_form.specs.Next.{IsOf};
+ghost use Rattle.ctl_form.specs.inside.Next.{IsOf};
 ghost use Rattle.ctl_form.specs.Truth.{After};
 
 use crate::BitRow;

@@ -5,7 +5,7 @@ ghost use Rattle.ctl_form.specs.Members.{part_at, forms_of};
 ghost use Rattle.ctl_form.specs.MemberTable.{IsNumbering, IsFaultOf};
 ghost use Rattle.ctl_form.specs.NormalParts.{AreNormalParts};
 ghost use Rattle.ctl_form.specs.Numbered.{IsNormalOf, IsRefusalOf, normals};
-ghost use Rattle.ctl_form.specs.Roots.{AreRoots};
+ghost use Rattle.ctl_form.specs.inside.Roots.{AreRoots};
 ghost use Rattle.ctl_form.specs.Walk.{walk_all};
 
 use crate::members::Members;

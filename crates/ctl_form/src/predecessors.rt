@@ -1,6 +1,6 @@
 ghost use Rattle.std.specs.Prelude.{◌≡◌, ◌<◌, ◌≤◌, ℕ, length, IfOk, OnOk, slice_index};
 ghost use Rattle.pair_structure.specs.StructureFault.{move_at};
-ghost use Rattle.ctl_form.specs.Predecessors.{EndsAt, AreLinked, AddsSources, ArePredecessors};
+ghost use Rattle.ctl_form.specs.inside.Predecessors.{EndsAt, AreLinked, AddsSources, ArePredecessors};
 
 use pair_structure::{Memory, Move, PairStructure};
 use std::alloc::Global;

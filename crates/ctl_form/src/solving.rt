@@ -2,8 +2,8 @@ ghost use Rattle.std.specs.Prelude.{◌≡◌, ◌<◌, ◌↔◌, length, map, 
 ghost use Rattle.pair_structure.specs.Structure.{IsOver};
 ghost use Rattle.ctl_form.specs.Form.{form_of};
 ghost use Rattle.ctl_form.specs.Kind.{Satisfies};
-ghost use Rattle.ctl_form.specs.Predecessors.{ArePredecessors};
-ghost use Rattle.ctl_form.specs.Known.{AreKnown};
+ghost use Rattle.ctl_form.specs.inside.Predecessors.{ArePredecessors};
+ghost use Rattle.ctl_form.specs.inside.Known.{AreKnown};
 ghost use Rattle.ctl_form.specs.Truth.{Holds};
 
 use crate::holds::{Known, truth_row};

@@ -5,7 +5,7 @@ ghost use Rattle.ctl_form.specs.Members.{form_at, forms_of};
 ghost use Rattle.ctl_form.specs.MemberTable.{Numbers};
 ghost use Rattle.ctl_form.specs.Normal.{normal};
 ghost use Rattle.ctl_form.specs.Walk.{noted, noted_until};
-ghost use Rattle.ctl_form.specs.Walking.{turned, constant_part, pair_part, pair, nexts, ever, once, lasting, release, Walks};
+ghost use Rattle.ctl_form.specs.inside.Walking.{turned, constant_part, pair_part, pair, nexts, ever, once, lasting, release, Walks};
 
 use crate::members::Members;
 use crate::{Formula, NormalFault, Part};

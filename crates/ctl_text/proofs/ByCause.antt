@@ -8,7 +8,7 @@ use Rattle.ctl_text.specs.Value.{SpecParts, role_names, kind_names, process_name
 use Rattle.ctl_text.specs.State.{Group, in_locals, in_arcs, in_kind, State}
 use Rattle.text_cause.specs.Cause.{cause_no, IsLowest, IsFree}
 use Rattle.ctl_text.specs.Cause.{UsesUnknown, DeclaresAgain, JoinsItself, LeavesStuck, GoesOver, HasLargeClosure, AreDeclared, IsLoop, JoinsAgain, Crowds, HasOtherRoles, Blocks}
-use Rattle.ctl_text.specs.LineCause.{LineBlocks}
+use Rattle.ctl_text.specs.inside.LineCause.{LineBlocks}
 use Rattle.ctl_text.proofs.Named.{contained}
 
 abbrev At : SpecParts → Group → State

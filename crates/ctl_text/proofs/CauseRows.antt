@@ -10,7 +10,7 @@ use Rattle.text_cause.specs.declared.cause.TextCause.TheVariants.{UnknownName, T
 use Rattle.ctl_text.specs.Value.{role_names, kind_names, process_names, number_in, AreJoined}
 use Rattle.text_cause.specs.Cause.{IsLowest, IsFree, cause_no, Row, Or}
 use Rattle.ctl_text.specs.Cause.{IsFirstCrowded, IsCrowded, AreOfKind, UseStands}
-use Rattle.ctl_text.specs.LineCause.{NameStands, ArcStands, JoinStands, EdgeStands}
+use Rattle.ctl_text.specs.inside.LineCause.{NameStands, ArcStands, JoinStands, EdgeStands}
 use Rattle.text_cause.proofs.Lowest.{From, from_row, from_or, row_lowest, row_free, or_free, or_left, or_right}
 
 abbrev Declared : List (List ℕ) → List ℕ → TextCause → Type 0

@@ -16,7 +16,7 @@ use Rattle.ctl_text.specs.State.{State, in_kind}
 use Rattle.text_cause.specs.Cause.{IsLowest, cause_no}
 use Rattle.ctl_text.specs.Cause.{Blocks, MaySay, WordsStand}
 use Rattle.text_cause.specs.Answers.{IsBadBy}
-use Rattle.ctl_text.specs.Judged.{IsClauseOf, IsSpelledOver, SpellingStands}
+use Rattle.ctl_text.specs.inside.Judged.{IsClauseOf, IsSpelledOver, SpellingStands}
 use Rattle.text_cause.specs.declared.line_fault.LineFault.{LineFault}
 use Rattle.text_cause.specs.declared.line_fault.LineFault.TheVariants.{Bad, Memory}
 use Rattle.ctl_text.proofs.ByCause.{line_of_cause}

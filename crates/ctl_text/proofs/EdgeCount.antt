@@ -6,7 +6,7 @@ use Rattle.interconnection.specs.declared.parts.Edge.{Edge}
 use Rattle.interconnection.specs.declared.parts.Process.{Process}
 use Rattle.interconnection.specs.Graph.{degree_of}
 use Rattle.interconnection.specs.Network.{AreLawful}
-use Rattle.ctl_text.specs.EdgeTable.{beside}
+use Rattle.ctl_text.specs.inside.EdgeTable.{beside}
 use Rattle.ctl_text.proofs.EdgeTables.{beside-length}
 
 -- how many edges have this process on side a, and how many one below it

@@ -10,7 +10,7 @@ use Rattle.text_cause.specs.declared.cause.TextCause.TheVariants.{UnknownName, S
 use Rattle.ctl_text.specs.Value.{AreJoined, kind_ends, kind_names, process_names, number_in, kind_at, process_at}
 use Rattle.text_cause.specs.Cause.{IsFree}
 use Rattle.ctl_text.specs.Cause.{IsCrowded, AreOfKind}
-use Rattle.ctl_text.specs.LineCause.{EdgeStands}
+use Rattle.ctl_text.specs.inside.LineCause.{EdgeStands}
 use Rattle.ctl_text.proofs.Crowded.{none_crowded}
 use Rattle.ctl_text.proofs.GraphKept.{ends_at}
 use Rattle.ctl_text.proofs.Named.{contained, number_within}

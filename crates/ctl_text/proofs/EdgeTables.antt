@@ -7,7 +7,7 @@ use Rattle.std.proofs.lemmas.List.Recursion.{is_count_by}
 use Rattle.interconnection.specs.declared.parts.Edge.{Edge}
 use Rattle.interconnection.specs.Graph.{joins, degree_of}
 use Rattle.ctl_text.specs.Value.{AreJoined}
-use Rattle.ctl_text.specs.EdgeTable.{other_end, beside, IsBeside}
+use Rattle.ctl_text.specs.inside.EdgeTable.{other_end, beside, IsBeside}
 
 abbrev pub row : List (List ℕ) → ℕ → List ℕ
 row rows k = slice_index_or rows k []

@@ -14,7 +14,7 @@ use Rattle.interconnection.specs.Graph.{joins, degree_of, JoinSame}
 use Rattle.interconnection.specs.Network.{AreLawful}
 use Rattle.text_cause.specs.declared.cause.TextCause.{TextCause}
 use Rattle.ctl_text.specs.Cause.{AreOfKind}
-use Rattle.ctl_text.specs.LineCause.{ProcessStands, JoinStands, EdgeStands}
+use Rattle.ctl_text.specs.inside.LineCause.{ProcessStands, JoinStands, EdgeStands}
 use Rattle.ctl_text.specs.Item.{head_line, done_line}
 use Rattle.ctl_text.specs.SoundValue.{Differ, IsNamedRole, IsNamedKind, IsNamedProcess, IsSoundValue}
 use Rattle.ctl_text.specs.SpecText.{line_for, role_lines, kind_lines, process_item, process_text, edge_item, edge_text, spec_lines, spec_text}

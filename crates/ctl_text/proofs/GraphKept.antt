@@ -12,7 +12,7 @@ use Rattle.interconnection.specs.Graph.{JoinSame, degree_of}
 use Rattle.interconnection.specs.Network.{AreLawful, AreRoles, HasRole, HasRoles, IsInRange, JoinsTwo, ends_of, role_of}
 use Rattle.ctl_text.specs.Value.{AreJoined, kind_ends, kind_at}
 use Rattle.ctl_text.specs.Cause.{IsCrowded}
-use Rattle.ctl_text.specs.EdgeTable.{other_end, beside}
+use Rattle.ctl_text.specs.inside.EdgeTable.{other_end, beside}
 use Rattle.ctl_text.proofs.EdgeTables.{beside-append, beside-length}
 
 wider : (roles : List RoleParts) (r : RoleParts) (n : ℕ) → n < length roles → n < length (roles ++ r ∷ [])

@@ -9,7 +9,7 @@ use Rattle.ctl_form.specs.Kind.{role_at}
 use Rattle.pair_structure.specs.Role.{RoleParts}
 use Rattle.ctl_text.specs.State.{State, Group, before_head, among_roles, in_locals, in_arcs, among_kinds, in_kind, among_processes, among_edges, after_done, MayStand}
 use Rattle.ctl_text.specs.Cause.{IsClauseSpelled, MaySay}
-use Rattle.ctl_text.specs.ItemReading.{item_at}
+use Rattle.ctl_text.specs.inside.ItemReading.{item_at}
 use Rattle.ctl_text.specs.Required.{tokens_in}
 use Rattle.formula_text.specs.Tree.{signs_of}
 use Rattle.formula_text.proofs.Spelled.{spelled_once}

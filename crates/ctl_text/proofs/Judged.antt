@@ -10,7 +10,7 @@ use Rattle.ctl_text.specs.Cause.{Blocks, MaySay, IsLongLine, WordsStand, Stands,
 use Rattle.text_cause.specs.declared.line_fault.LineFault.{LineFault}
 use Rattle.text_cause.specs.declared.line_fault.LineFault.TheVariants.{Bad, Memory}
 use Rattle.text_cause.specs.Answers.{IsBadBy}
-use Rattle.ctl_text.specs.Judged.{IsTakenAs, CanSay, misplaced}
+use Rattle.ctl_text.specs.inside.Judged.{IsTakenAs, CanSay, misplaced}
 use Rattle.ctl_text.proofs.ItemLaws.{says_once, other_clause}
 
 head_only : (g : Group) (x : Said) → MayStand g x → g ≡ before_head → x ≡ head_line

@@ -12,9 +12,9 @@ use Rattle.ctl_form.specs.declared.pair_spec.PairSpec.{PairSpec}
 use Rattle.interconnection.specs.declared.parts.Process.{Process}
 use Rattle.text_cause.specs.declared.cause.TextCause.TheVariants.{UnknownName, Twice, SelfArc, NoArc, TooMany}
 use Rattle.text_cause.specs.Cause.{IsFree}
-use Rattle.ctl_text.specs.LineCause.{NameStands, ArcStands, KindStands, ProcessStands, EdgeStands, RoleEndStands}
+use Rattle.ctl_text.specs.inside.LineCause.{NameStands, ArcStands, KindStands, ProcessStands, EdgeStands, RoleEndStands}
 use Rattle.ctl_text.specs.Value.{SpecParts, number_in, role_names, kind_names, kind_ends, process_names}
-use Rattle.ctl_text.specs.Sound.{AreLocals, AreArcs, IsSoundState}
+use Rattle.ctl_text.specs.inside.Sound.{AreLocals, AreArcs, IsSoundState}
 use Rattle.ctl_text.specs.Item.{head_line, end_line, process_line, edge_line, done_line}
 use Rattle.ctl_text.specs.State.{State, Group, in_locals, in_arcs, in_kind, among_processes, before_head, among_roles, among_kinds, among_edges, after_done, MayStand, opened_kind, after}
 use Rattle.ctl_text.proofs.EdgeFits.{edge_named, edge_fits}

@@ -8,7 +8,7 @@ use Rattle.ctl_form.specs.declared.pair_spec.PairSpec.{PairSpec}
 use Rattle.ctl_form.specs.Form.{Form}
 use Rattle.ctl_form.specs.Kind.{role_at}
 use Rattle.text_cause.specs.declared.cause.TextCause.{TextCause}
-use Rattle.ctl_text.specs.LineCause.{KindStands, KindEndStands}
+use Rattle.ctl_text.specs.inside.LineCause.{KindStands, KindEndStands}
 use Rattle.formula_text.specs.FormulaText.{name_at}
 use Rattle.ctl_text.specs.Item.{kind_line, end_line, process_line, edge_line, done_line}
 use Rattle.ctl_text.specs.Required.{IsClosureOver}

@@ -7,10 +7,10 @@ use Rattle.ctl_form.specs.Kind.{role_at}
 use Rattle.formula_text.specs.Canonical.{AreNames}
 use Rattle.text_cause.specs.Cause.{IsFree}
 use Rattle.ctl_text.specs.Cause.{Takes}
-use Rattle.ctl_text.specs.LineCause.{LineBlocks}
+use Rattle.ctl_text.specs.inside.LineCause.{LineBlocks}
 use Rattle.formula_text.specs.FormulaText.{Names, formula_text}
 use Rattle.ctl_text.specs.Item.{Said, require_line, words_for, IsSpelled}
-use Rattle.ctl_text.specs.Judged.{IsSpelledOver}
+use Rattle.ctl_text.specs.inside.Judged.{IsSpelledOver}
 use Rattle.ctl_text.specs.Lines.{lines_of, words_of}
 use Rattle.ctl_text.specs.SoundValue.{IsReadable}
 use Rattle.ctl_text.specs.SpecText.{ended, line_for, require_text}

@@ -13,7 +13,7 @@ use Rattle.interconnection.specs.declared.parts.Process.{Process}
 use Rattle.interconnection.specs.declared.parts.Edge.{Edge}
 use Rattle.text_cause.specs.declared.cause.TextCause.{TextCause}
 use Rattle.ctl_text.specs.Cause.{UseStands}
-use Rattle.ctl_text.specs.LineCause.{NameStands, ArcStands, RoleEndStands}
+use Rattle.ctl_text.specs.inside.LineCause.{NameStands, ArcStands, RoleEndStands}
 use Rattle.formula_text.specs.FormulaText.{name_at}
 use Rattle.ctl_text.specs.Item.{role_line, local_line, start_line, end_line}
 use Rattle.ctl_text.specs.SoundValue.{Differ, IsNamedRole}

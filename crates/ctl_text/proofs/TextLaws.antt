@@ -6,7 +6,7 @@ use Rattle.interconnection.specs.declared.parts.Edge.{Edge}
 use Rattle.text_cause.specs.declared.cause.TextCause.{TextCause}
 use Rattle.text_cause.specs.declared.cause.TextCause.TheVariants.{NotText, BadHead, Long, BadLine, UnknownName, Twice, SelfArc, NoArc, TooMany, ClosureOver, SelfEdge, EdgeTwice, DegreeOver, RoleMismatch}
 use Rattle.text_cause.specs.Cause.{IsLowest, Row, Or, NumberRow, cause_no}
-use Rattle.text_cause.specs.Laws.{IsLawful}
+use Rattle.text_cause.specs.inside.Laws.{IsLawful}
 use Rattle.text_cause.proofs.Lowest.{From, OneEach, from_row, from_or, from_numbered, lowest_once, one_each_row, one_each_or, one_each_above, one_each_numbered, to_numbered}
 use Rattle.ctl_text.specs.Cause.{Blocks, Crowds, DeclaresAgain, GoesOver, HasLargeClosure, HasOtherRoles, IsFirstCrowded, IsFirstStuck, IsLongLine, IsLoop, IsNoHead, JoinsAgain, JoinsItself, Leaves, LeavesStuck, MaySay, SaysNothing, Stands, Takes, UsesUnknown, WordsStand}
 use Rattle.ctl_text.specs.Item.{Said, head_line, role_line, local_line, start_line, arc_line, kind_line, require_line, end_line, process_line, edge_line, done_line}

@@ -13,13 +13,13 @@ use Rattle.text_cause.specs.declared.cause.TextCause.TheVariants.{Long, UnknownN
 use Rattle.formula_text.specs.Canonical.{AreNames}
 use Rattle.text_cause.specs.Cause.{IsFree}
 use Rattle.ctl_text.specs.Cause.{IsClauseSpelled, IsLongLine, Takes}
-use Rattle.ctl_text.specs.LineCause.{LineBlocks, ProcessStands}
+use Rattle.ctl_text.specs.inside.LineCause.{LineBlocks, ProcessStands}
 use Rattle.ctl_text.specs.Item.{Said, head_line, role_line, local_line, start_line, arc_line, kind_line, require_line, end_line, process_line, edge_line, done_line, words_for, IsSpelled}
 use Rattle.ctl_text.specs.Lines.{lines_of}
 use Rattle.formula_text.specs.Long.{IsLong}
 use Rattle.ctl_text.specs.Required.{tokens_in, SpellsOver, AreKnownOver, IsClosureOver}
 use Rattle.formula_text.specs.Sign.{Names}
-use Rattle.ctl_text.specs.Sound.{IsSoundState}
+use Rattle.ctl_text.specs.inside.Sound.{IsSoundState}
 use Rattle.ctl_text.specs.SoundValue.{Differ, IsNamedRole, IsReadable, IsNamedKind, IsNamedProcess, IsOverRoles, IsSoundValue}
 use Rattle.ctl_text.specs.State.{Group, in_locals, in_arcs, in_kind, State, first_state, MayStand, after, arc_in}
 use Rattle.text_cause.specs.Grammar.{StandsFor}

@@ -3,9 +3,9 @@ ghost use Rattle.pair_structure.specs.Name.{IsName};
 ghost use Rattle.ctl_text.specs.Item.{local_line, start_line, arc_line, end_line, process_line, edge_line, IsSpelled};
 ghost use Rattle.ctl_text.specs.State.{MayStand, with_local, with_start, with_arc, opened_kind, after};
 ghost use Rattle.text_cause.specs.Cause.{IsFree};
-ghost use Rattle.ctl_text.specs.LineCause.{LocalBlocks, StartBlocks, ArcBlocks, EndBlocks, LineBlocks};
-ghost use Rattle.ctl_text.specs.Sound.{IsSound, IsSoundState};
-ghost use Rattle.ctl_text.specs.View.{group_of, state_of, said};
+ghost use Rattle.ctl_text.specs.inside.LineCause.{LocalBlocks, StartBlocks, ArcBlocks, EndBlocks, LineBlocks};
+ghost use Rattle.ctl_text.specs.inside.Sound.{IsSound, IsSoundState};
+ghost use Rattle.ctl_text.specs.inside.View.{group_of, state_of, said};
 
 use crate::grown::{opened_kind, with_arc, with_local, with_start};
 use crate::item::Item;

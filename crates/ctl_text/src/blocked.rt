@@ -1,8 +1,8 @@
 ghost use Rattle.std.specs.Prelude.{IfOk, IfSome, IfNone};
 ghost use Rattle.text_cause.specs.Cause.{IsLowest, IsFree};
-ghost use Rattle.ctl_text.specs.LineCause.{LineBlocks, LocalBlocks, StartBlocks, ArcBlocks, EndBlocks};
-ghost use Rattle.ctl_text.specs.Sound.{IsSound, HasItsRoles, IsSoundState};
-ghost use Rattle.ctl_text.specs.View.{group_of, state_of, said};
+ghost use Rattle.ctl_text.specs.inside.LineCause.{LineBlocks, LocalBlocks, StartBlocks, ArcBlocks, EndBlocks};
+ghost use Rattle.ctl_text.specs.inside.Sound.{IsSound, HasItsRoles, IsSoundState};
+ghost use Rattle.ctl_text.specs.inside.View.{group_of, state_of, said};
 
 use crate::closure_count::is_closure_over;
 use crate::graph_cause::{edge_cause, kind_cause, process_cause};

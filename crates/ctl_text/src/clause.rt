@@ -2,13 +2,13 @@ ghost use Rattle.std.specs.Prelude.{◌≡◌, ◌↔◌, ◌≤◌, ◌∷◌, 
 ghost use Rattle.ctl_form.specs.Form.{form_of};
 ghost use Rattle.ctl_form.specs.Kind.{role_at};
 ghost use Rattle.text_cause.specs.Answers.{IsBadBy};
-ghost use Rattle.ctl_text.specs.Judged.{IsTakenAs, IsClauseOf, IsSpelledOver, SpellingStands};
+ghost use Rattle.ctl_text.specs.inside.Judged.{IsTakenAs, IsClauseOf, IsSpelledOver, SpellingStands};
 ghost use Rattle.formula_text.specs.Long.{IsLong};
 ghost use Rattle.ctl_text.specs.Required.{tokens_in};
 ghost use Rattle.ctl_text.specs.State.{with_form};
 ghost use Rattle.ctl_text.specs.Cause.{WordsStand};
-ghost use Rattle.ctl_text.specs.Sound.{IsSoundState};
-ghost use Rattle.ctl_text.specs.View.{group_of, state_of};
+ghost use Rattle.ctl_text.specs.inside.Sound.{IsSoundState};
+ghost use Rattle.ctl_text.specs.inside.View.{group_of, state_of};
 
 use crate::grown::with_form;
 use crate::place::{Place, Reader};

@@ -17,7 +17,7 @@ pub(crate) struct Edges {
 impl Model for Edges {
     ghost use Rattle.std.specs.Prelude.{List};
     ghost use Rattle.interconnection.specs.declared.parts.Edge.{Edge};
-    ghost use Rattle.ctl_text.specs.EdgeTable.{IsBeside};
+    ghost use Rattle.ctl_text.specs.inside.EdgeTable.{IsBeside};
 
     ghost Value = { List Edge };
 

@@ -2,7 +2,7 @@ ghost use Rattle.std.specs.Prelude.{◌≡◌, ◌↔◌, ◌<◌, ◌≤◌, �
 ghost use Rattle.ctl_text.specs.Value.{role_names, kind_names, process_names, number_in, process_at, kind_at};
 ghost use Rattle.text_cause.specs.Cause.{IsLowest, IsFree};
 ghost use Rattle.ctl_text.specs.Cause.{IsCrowded, IsFirstCrowded, AreOfKind};
-ghost use Rattle.ctl_text.specs.LineCause.{NameStands, KindStands, ProcessStands, JoinStands, EdgeStands};
+ghost use Rattle.ctl_text.specs.inside.LineCause.{NameStands, KindStands, ProcessStands, JoinStands, EdgeStands};
 
 use crate::edges::Edges;
 use crate::names::{has_kind, has_process, has_role, kind_number, process_number};

@@ -4,9 +4,9 @@ ghost use Rattle.ctl_form.specs.Form.{form_of};
 ghost use Rattle.ctl_text.specs.Item.{start_line};
 ghost use Rattle.ctl_text.specs.State.{MayStand, with_local, with_start, with_arc, with_form, opened_kind};
 ghost use Rattle.text_cause.specs.Cause.{IsFree};
-ghost use Rattle.ctl_text.specs.LineCause.{LocalBlocks, ArcBlocks};
-ghost use Rattle.ctl_text.specs.Sound.{IsSound};
-ghost use Rattle.ctl_text.specs.View.{group_of};
+ghost use Rattle.ctl_text.specs.inside.LineCause.{LocalBlocks, ArcBlocks};
+ghost use Rattle.ctl_text.specs.inside.Sound.{IsSound};
+ghost use Rattle.ctl_text.specs.inside.View.{group_of};
 
 use crate::names::{local_number, name_of, role_number};
 use crate::place::Place;

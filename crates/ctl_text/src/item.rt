@@ -2,9 +2,9 @@ ghost use Rattle.std.specs.Prelude.{◌≡◌, ◌↔◌, IsTrue, IfSome, IfNone
 ghost use Rattle.std.specs.Option.{option_map};
 ghost use Rattle.pair_structure.specs.Name.{IsName, is_name_byte};
 ghost use Rattle.ctl_text.specs.Item.{Said, IsSpelled, Says};
-ghost use Rattle.ctl_text.specs.ItemReading.{item_at, one_at, two_at, three_at, four_at};
+ghost use Rattle.ctl_text.specs.inside.ItemReading.{item_at, one_at, two_at, three_at, four_at};
 ghost use Rattle.ctl_text.specs.Lines.{IsRequire};
-ghost use Rattle.ctl_text.specs.View.{said};
+ghost use Rattle.ctl_text.specs.inside.View.{said};
 
 /// What a line says that is not passed over and requires no clause.
 #[derive(Clone, Copy, Debug)]

@@ -1,6 +1,6 @@
 ghost use Rattle.std.specs.Prelude.{◌↔◌, IsTrue};
 ghost use Rattle.ctl_text.specs.State.{MayStand, among_kinds};
-ghost use Rattle.ctl_text.specs.View.{group_of, said};
+ghost use Rattle.ctl_text.specs.inside.View.{group_of, said};
 
 use crate::edges::Edges;
 use crate::item::Item;

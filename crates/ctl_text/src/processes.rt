@@ -1,6 +1,6 @@
 ghost use Rattle.std.specs.Prelude.{◌≡◌, ◌<◌, ◌++◌, ◌∷◌, [], IfSome, IfOk, OnOk, length, position};
 ghost use Rattle.std.specs.Str.{bytes_eq};
-ghost use Rattle.ctl_text.specs.ProcessNumbers.{IsNumbered};
+ghost use Rattle.ctl_text.specs.inside.ProcessNumbers.{IsNumbered};
 
 use interconnection::Process;
 use std::alloc::{AllocError, Global};
@@ -17,7 +17,7 @@ pub(crate) struct Processes {
 impl Model for Processes {
     ghost use Rattle.std.specs.Prelude.{List};
     ghost use Rattle.interconnection.specs.declared.parts.Process.{Process};
-    ghost use Rattle.ctl_text.specs.ProcessNumbers.{AreNumbers};
+    ghost use Rattle.ctl_text.specs.inside.ProcessNumbers.{AreNumbers};
 
     ghost Value = { List Process };
 

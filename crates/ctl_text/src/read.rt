@@ -3,14 +3,14 @@ ghost use Rattle.interconnection.specs.Graph.{degree_of};
 ghost use Rattle.interconnection.specs.Network.{AreLawful};
 ghost use Rattle.ctl_text.specs.Value.{SpecParts, kind_ends};
 ghost use Rattle.ctl_text.specs.Text.{IsSpecText, IsRefused, Gives};
-ghost use Rattle.ctl_text.specs.Judged.{IsBadEnd};
+ghost use Rattle.ctl_text.specs.inside.Judged.{IsBadEnd};
 ghost use Rattle.ctl_text.specs.SoundValue.{IsOverRoles};
-ghost use Rattle.ctl_text.specs.Sound.{IsSoundState};
-ghost use Rattle.ctl_text.specs.View.{state_of};
+ghost use Rattle.ctl_text.specs.inside.Sound.{IsSoundState};
+ghost use Rattle.ctl_text.specs.inside.View.{state_of};
 ghost use Rattle.text_cause.specs.declared.cause.TextCause.{TextCause};
 ghost use Rattle.text_cause.specs.Answers.{IsFaultAt};
 ghost use Rattle.ctl_text.specs.Answers.{IsRefusal};
-ghost use Rattle.ctl_text.specs.Made.{value_of, HasEnds};
+ghost use Rattle.ctl_text.specs.inside.Made.{value_of, HasEnds};
 
 use crate::edges::Edges;
 use crate::line::cut_line;

@@ -3,7 +3,7 @@ ghost use Rattle.pair_structure.specs.Role.{HasArc, HasArcFrom};
 ghost use Rattle.ctl_text.specs.Value.{role_names, number_in};
 ghost use Rattle.text_cause.specs.Cause.{IsLowest, IsFree};
 ghost use Rattle.ctl_text.specs.Cause.{UseStands};
-ghost use Rattle.ctl_text.specs.LineCause.{NameStands, ArcStands, RoleEndStands};
+ghost use Rattle.ctl_text.specs.inside.LineCause.{NameStands, ArcStands, RoleEndStands};
 
 use crate::names::{has_local, has_role, local_number};
 use pair_structure::{LocalArc, Name, Role};

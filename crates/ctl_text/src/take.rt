@@ -2,11 +2,11 @@ ghost use Rattle.std.specs.Prelude.{◌≡◌, ◌↔◌, ◌⊎◌, ◌∷◌, 
 ghost use Rattle.ctl_text.specs.Lines.{IsRequire};
 ghost use Rattle.ctl_text.specs.Item.{Said};
 ghost use Rattle.text_cause.specs.Answers.{IsBadBy};
-ghost use Rattle.ctl_text.specs.Judged.{IsTakenAs, CanSay, misplaced};
+ghost use Rattle.ctl_text.specs.inside.Judged.{IsTakenAs, CanSay, misplaced};
 ghost use Rattle.text_cause.specs.Cause.{IsLowest, IsFree};
 ghost use Rattle.ctl_text.specs.Cause.{Blocks, WordsStand, Stands, Takes};
-ghost use Rattle.ctl_text.specs.Sound.{IsSoundState};
-ghost use Rattle.ctl_text.specs.View.{group_of, state_of, said};
+ghost use Rattle.ctl_text.specs.inside.Sound.{IsSoundState};
+ghost use Rattle.ctl_text.specs.inside.View.{group_of, state_of, said};
 
 use crate::added::added;
 use crate::blocked::blocked;

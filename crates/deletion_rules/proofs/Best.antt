@@ -3,7 +3,7 @@ use Rattle.std.proofs.Common.{ℕ, ◌≡◌, ◌⊎◌, ◌<◌, ◌≤◌, inl
 use Rattle.std.proofs.Math.Decide.{dec_le}
 use Rattle.std.proofs.lemmas.List.Elements.{Contains-append_left, Contains-append_right, Contains-append_cases, Contains-push, Contains-push_cases}
 use Rattle.ctl_form.proofs.Decided.{Decided}
-use Rattle.deletion_rules.specs.Picking.{IsBest}
+use Rattle.deletion_rules.specs.inside.Picking.{IsBest}
 use Rattle.deletion_rules.proofs.Pending.{decided_has}
 
 module _ (lives : ℕ → Bool) (rank : ℕ → Option ℕ) where

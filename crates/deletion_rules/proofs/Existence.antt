@@ -25,7 +25,7 @@ use Rattle.deletion_rules.specs.declared.position.Position.{Position}
 use Rattle.deletion_rules.proofs.FromPositions.{Leads, unravelled_of, over_of}
 use Rattle.deletion_rules.proofs.MoveList.{moves_below, moves_are, moves_have, moves_rise}
 use Rattle.deletion_rules.proofs.Pending.{decided_has}
-use Rattle.deletion_rules.specs.Picking.{IsGood, IsPlan}
+use Rattle.deletion_rules.specs.inside.Picking.{IsGood, IsPlan}
 use Rattle.deletion_rules.proofs.Picks.{IsPick, pick}
 use Rattle.deletion_rules.proofs.States.{positions_below, positions_are, positions_have}
 use Rattle.deletion_rules.proofs.WholePlan.{whole_plan, is_plan, has_targets, turns}

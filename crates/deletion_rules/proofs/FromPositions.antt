@@ -15,7 +15,7 @@ use Rattle.closure_sets.specs.Label.{part_of}
 use Rattle.tableau_graph.specs.Rules.{Follows}
 use Rattle.tableau_graph.specs.Graph.{Graph, IsGraph, IsSomeNext, FollowArcs}
 use Rattle.deletion_rules.specs.Deletion.{IsKept}
-use Rattle.deletion_rules.specs.Picking.{IsGood, IsPlan}
+use Rattle.deletion_rules.specs.inside.Picking.{IsGood, IsPlan}
 use Rattle.deletion_rules.specs.Unravel.{HasTargets, Plan, IsStep, IsUnravelled, row_at}
 use Rattle.deletion_rules.specs.declared.position.Position.{Position}
 

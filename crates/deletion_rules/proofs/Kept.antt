@@ -18,8 +18,8 @@ use Rattle.deletion_rules.specs.Deletion.{Falls, IsKept, IsStrong, LivesOr}
 use Rattle.deletion_rules.specs.Marks.{lists_of, lives_of, living_count, mark_at, marks_at, rank_of, ranks_of, AreLeft, AreMarksOf, AreTable, IsLeft}
 use Rattle.deletion_rules.specs.Met.{Meets, MetLive}
 use Rattle.deletion_rules.specs.Pruned.{IsUnsatisfiable}
-use Rattle.deletion_rules.specs.Stable.{IsLasting}
-use Rattle.deletion_rules.specs.Thinning.{IsThinned}
+use Rattle.deletion_rules.specs.inside.Stable.{IsLasting}
+use Rattle.deletion_rules.specs.inside.Thinning.{IsThinned}
 use Rattle.deletion_rules.proofs.Removal.{removal_keeps_met, dead_is_unsatisfiable}
 use Rattle.deletion_rules.proofs.Standing.{flag_within}
 

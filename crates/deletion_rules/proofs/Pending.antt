@@ -7,7 +7,7 @@ use Rattle.closure_sets.specs.ClosureParts.{ClosureParts}
 use Rattle.closure_sets.specs.Full.{Has}
 use Rattle.closure_sets.specs.Label.{part_of}
 use Rattle.closure_sets.specs.Row.{Members}
-use Rattle.deletion_rules.specs.Picking.{Pending}
+use Rattle.deletion_rules.specs.inside.Picking.{Pending}
 use Rattle.deletion_rules.specs.Unravel.{IsPending}
 
 pub decided_has : (b : Bool) → Decided (b ≡ true)

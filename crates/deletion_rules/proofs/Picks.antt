@@ -15,7 +15,7 @@ use Rattle.tableau_graph.specs.Graph.{Graph, IsGraph, IsSomeNext, FollowArcs}
 use Rattle.deletion_rules.specs.Deletion.{LivesOr, IsKept, IsStrong, HasLower, Falls}
 use Rattle.deletion_rules.specs.Unravel.{Plan, target, target_at, row_at, IsPending, Pends, IsPassed, MovesOn, StaysWhilePending, Pursues, IsKeptBy, IsStep}
 use Rattle.deletion_rules.specs.declared.position.Position.{Position}
-use Rattle.deletion_rules.specs.Picking.{IsBest, IsGood, IsNextPlace, IsPlan, Pending, or_zero}
+use Rattle.deletion_rules.specs.inside.Picking.{IsBest, IsGood, IsNextPlace, IsPlan, Pending, or_zero}
 use Rattle.deletion_rules.proofs.Best.{best_of}
 use Rattle.deletion_rules.proofs.Pending.{pending_case, decided_pending, one_kind}
 use Rattle.deletion_rules.proofs.Searches.{next_place}

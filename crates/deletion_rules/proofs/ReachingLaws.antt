@@ -2,9 +2,9 @@
 use Rattle.std.proofs.Common.{ℕ, ◌≡◌, ◌⊎◌, ◌<◌, ◌≤◌, ◌+◌, ◌++◌, inl, inr, Bool, true, false, List, [], ◌∷◌, Contains, length, length-set, refl, subst, sym, ◌∙◌, ap, arith, slice_index_or, slice_set}
 use Rattle.std.proofs.lemmas.List.Elements.{Contains-append_left, Contains-append_right, Contains-push_cases}
 use Rattle.std.proofs.lemmas.Grind.{get_or_default_zero}
-use Rattle.deletion_rules.specs.Cursors.{flag_of}
-use Rattle.deletion_rules.specs.Lists.{list_at, StandsBefore}
-use Rattle.deletion_rules.specs.Spread.{IsParentOf, Reaching}
+use Rattle.deletion_rules.specs.inside.Cursors.{flag_of}
+use Rattle.deletion_rules.specs.inside.Lists.{list_at, StandsBefore}
+use Rattle.deletion_rules.specs.inside.Spread.{IsParentOf, Reaching}
 use Rattle.deletion_rules.proofs.Standing.{flag_here, flag_kept, flag_cases, none_before, stands_all, stands_cases, stands_here, stands_in, stands_more}
 
 pub reaching_none : (before : List Bool) (old : List ℕ) (Named : ℕ → Type 0) → ((o : ℕ) → Named o → ⊥) → Reaching Named before old before old

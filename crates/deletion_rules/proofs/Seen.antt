@@ -13,7 +13,7 @@ use Rattle.closure_sets.specs.Row.{Members}
 use Rattle.tableau_graph.specs.Graph.{Graph, graph_of, IsSomeNext}
 use Rattle.tableau_graph.specs.Rules.{IsTableau}
 use Rattle.tableau_graph.specs.TableauParts.{TableauParts, and_at, edges_at, row_of, is_some_next, one_more, somes_below}
-use Rattle.deletion_rules.specs.Cursors.{flag_of}
+use Rattle.deletion_rules.specs.inside.Cursors.{flag_of}
 use Rattle.deletion_rules.specs.Deletion.{LivesOr}
 use Rattle.deletion_rules.specs.Marks.{lives_of}
 use Rattle.deletion_rules.specs.Tests.{lives_or, lives_on, AreLivingOrs}

@@ -17,12 +17,12 @@ use Rattle.closure_sets.proofs.Closures.{after_part}
 use Rattle.tableau_graph.specs.Graph.{Graph, graph_of, IsGraph, IsSomeNext}
 use Rattle.tableau_graph.specs.Rules.{IsTableau}
 use Rattle.tableau_graph.specs.TableauParts.{TableauParts, edges_at}
-use Rattle.deletion_rules.specs.Cursors.{flag_of, AreCursors}
+use Rattle.deletion_rules.specs.inside.Cursors.{flag_of, AreCursors}
 use Rattle.deletion_rules.specs.Deletion.{HasLower, Falls}
-use Rattle.deletion_rules.specs.Edges.{arrow_of, AreEdges}
-use Rattle.deletion_rules.specs.Lists.{list_at}
+use Rattle.deletion_rules.specs.inside.Edges.{arrow_of, AreEdges}
+use Rattle.deletion_rules.specs.inside.Lists.{list_at}
 use Rattle.deletion_rules.specs.Marks.{lives_of, mark_at, open_count, rank_of, AreMarks, AreSound, IsSeen}
-use Rattle.deletion_rules.specs.Spread.{AreFirst, IsAdmitted, IsArrowTo, IsLed, IsLedBy, IsMarked, IsMetAt, IsParentOf, IsPassing, IsReaching, IsSpread, Reaching, Visits}
+use Rattle.deletion_rules.specs.inside.Spread.{AreFirst, IsAdmitted, IsArrowTo, IsLed, IsLedBy, IsMarked, IsMetAt, IsParentOf, IsPassing, IsReaching, IsSpread, Reaching, Visits}
 use Rattle.deletion_rules.specs.Targets.{IsTarget}
 use Rattle.deletion_rules.specs.Tests.{has_member, is_met}
 use Rattle.deletion_rules.specs.declared.edges.Arrow.{Arrow}

@@ -8,11 +8,11 @@ use Rattle.std.proofs.lemmas.List.Sums.{sum_by-set}
 use Rattle.tableau_graph.specs.Graph.{graph_of, IsGraph, ChildrenCover}
 use Rattle.tableau_graph.specs.Rules.{IsTableau}
 use Rattle.tableau_graph.specs.TableauParts.{TableauParts, edges_at}
-use Rattle.deletion_rules.specs.Cursors.{flag_of, AreCursors, EachIs, HasPassed}
+use Rattle.deletion_rules.specs.inside.Cursors.{flag_of, AreCursors, EachIs, HasPassed}
 use Rattle.deletion_rules.specs.Deletion.{IsSupported, LivesOr}
 use Rattle.deletion_rules.specs.Marks.{lives_of}
 use Rattle.deletion_rules.specs.Met.{MetLive}
-use Rattle.deletion_rules.specs.Thinning.{AreLost, AreNodes, Deletes, IsLosing, IsLost, IsThinned, IsThinning, Loses}
+use Rattle.deletion_rules.specs.inside.Thinning.{AreLost, AreNodes, Deletes, IsLosing, IsLost, IsThinned, IsThinning, Loses}
 use Rattle.deletion_rules.specs.declared.edges.Arrow.{Arrow}
 use Rattle.deletion_rules.specs.declared.thinning.Thinning.{Thinning}
 use Rattle.deletion_rules.proofs.Removal.{removal_keeps_met}

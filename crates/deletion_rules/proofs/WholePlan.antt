@@ -13,7 +13,7 @@ use Rattle.deletion_rules.specs.Deletion.{IsKept, HasLower, Falls}
 use Rattle.deletion_rules.specs.Unravel.{Plan, IsPending, HasTargets, row_at, target_at}
 use Rattle.deletion_rules.specs.declared.position.Position.{Position}
 use Rattle.deletion_rules.proofs.Pending.{PendingCase, pending_case, decided_has, one_kind}
-use Rattle.deletion_rules.specs.Picking.{IsPlan, or_zero}
+use Rattle.deletion_rules.specs.inside.Picking.{IsPlan, or_zero}
 use Rattle.deletion_rules.proofs.Picks.{rank_number}
 
 module _ (c : ClosureParts) (g : Graph) (lives : ℕ → Bool) (rank : ℕ → ℕ → Option ℕ) (kept : IsKept c g lives rank) where

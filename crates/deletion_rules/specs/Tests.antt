@@ -2,7 +2,7 @@
 use Rattle.std.specs.Prelude.{ℕ, ◌≡◌, ◌<◌, Bool, false, ◌&&◌, Option, List, length, is_none}
 use Rattle.std.specs.List.{list_any, list_all}
 use Rattle.tableau_graph.specs.TableauParts.{TableauParts, and_at, edges_at, row_of}
-use Rattle.deletion_rules.specs.Cursors.{flag_of}
+use Rattle.deletion_rules.specs.inside.Cursors.{flag_of}
 use Rattle.deletion_rules.specs.Marks.{lives_of, ranks_of}
 use Rattle.deletion_rules.specs.Targets.{target_in}
 use Rattle.deletion_rules.specs.declared.target.Target.{Target}

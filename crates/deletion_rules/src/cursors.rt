@@ -1,5 +1,5 @@
 ghost use Rattle.std.specs.Prelude.{◌≡◌, ◌<◌, ◌↔◌, ℕ, Contains, IfOk, IsTrue, length, replicate};
-ghost use Rattle.deletion_rules.specs.Cursors.{EachIs, HasPassed};
+ghost use Rattle.deletion_rules.specs.inside.Cursors.{EachIs, HasPassed};
 
 use pair_structure::Memory;
 use std::alloc::Global;

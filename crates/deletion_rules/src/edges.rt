@@ -1,6 +1,6 @@
 ghost use Rattle.std.specs.Prelude.{◌≡◌, ◌+◌, ◌<◌, length, IfOk, OnOk};
 ghost use Rattle.closure_sets.specs.ClosureParts.{count};
-ghost use Rattle.deletion_rules.specs.Edges.{is_next, AreArrows, AreEdges, AreParents};
+ghost use Rattle.deletion_rules.specs.inside.Edges.{is_next, AreArrows, AreEdges, AreParents};
 
 use crate::lists::Lists;
 use pair_structure::Memory;

@@ -1,5 +1,5 @@
 ghost use Rattle.std.specs.Prelude.{length, IfOk};
-ghost use Rattle.deletion_rules.specs.Stable.{IsLasting};
+ghost use Rattle.deletion_rules.specs.inside.Stable.{IsLasting};
 
 use crate::cursors::flags;
 use crate::deleting::{left_of, living_count};

@@ -1,5 +1,5 @@
 ghost use Rattle.std.specs.Prelude.{◌≡◌, ◌<◌, ◌++◌, ◌∷◌, [], ℕ, length, IfOk, OnOk};
-ghost use Rattle.deletion_rules.specs.Lists.{list_at, AreEmpty};
+ghost use Rattle.deletion_rules.specs.inside.Lists.{list_at, AreEmpty};
 
 use pair_structure::Memory;
 use std::alloc::Global;

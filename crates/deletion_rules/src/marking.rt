@@ -1,8 +1,8 @@
 ghost use Rattle.std.specs.Prelude.{◌≡◌, ◌<◌, ◌≤◌, ◌+◌, true, length, replicate, IfOk, OnOk};
-ghost use Rattle.deletion_rules.specs.Cursors.{AreCursors};
-ghost use Rattle.deletion_rules.specs.Edges.{AreEdges};
+ghost use Rattle.deletion_rules.specs.inside.Cursors.{AreCursors};
+ghost use Rattle.deletion_rules.specs.inside.Edges.{AreEdges};
 ghost use Rattle.deletion_rules.specs.Marks.{lives_of, open_count, AreMarks};
-ghost use Rattle.deletion_rules.specs.Spread.{AreFirst, IsSpread};
+ghost use Rattle.deletion_rules.specs.inside.Spread.{AreFirst, IsSpread};
 ghost use Rattle.deletion_rules.specs.Targets.{IsTarget};
 ghost use Rattle.deletion_rules.specs.Tests.{is_met};
 ghost use Rattle.tableau_graph.specs.Graph.{graph_of};

@@ -1,4 +1,4 @@
-ghost use Rattle.deletion_rules.specs.PositionOrder.{position_exact};
+ghost use Rattle.deletion_rules.specs.inside.PositionOrder.{position_exact};
 
 use tableau_graph::Node;
 

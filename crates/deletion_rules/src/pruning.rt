@@ -1,5 +1,5 @@
 ghost use Rattle.std.specs.Prelude.{◌≡◌, ◌<◌, length, IfOk};
-ghost use Rattle.deletion_rules.specs.Stable.{IsLasting};
+ghost use Rattle.deletion_rules.specs.inside.Stable.{IsLasting};
 ghost use Rattle.deletion_rules.specs.Outcome.{IsPruned};
 
 use crate::deleting::lives_or;

@@ -1,6 +1,6 @@
 ghost use Rattle.std.specs.Prelude.{◌≡◌, ◌<◌, ℕ, Contains, [], length, IfOk, OnOk};
-ghost use Rattle.deletion_rules.specs.Lists.{list_at};
-ghost use Rattle.deletion_rules.specs.Spread.{Reaching, IsParentOf};
+ghost use Rattle.deletion_rules.specs.inside.Lists.{list_at};
+ghost use Rattle.deletion_rules.specs.inside.Spread.{Reaching, IsParentOf};
 
 use crate::lists::Lists;
 use pair_structure::Memory;

@@ -1,6 +1,6 @@
 ghost use Rattle.std.specs.Prelude.{◌≡◌, ◌<◌, length, IfOk};
 ghost use Rattle.closure_sets.specs.ClosureParts.{count};
-ghost use Rattle.deletion_rules.specs.Edges.{AreEdges};
+ghost use Rattle.deletion_rules.specs.inside.Edges.{AreEdges};
 ghost use Rattle.deletion_rules.specs.Marks.{lists_of, lives_of, AreMarksOf, AreTable};
 ghost use Rattle.tableau_graph.specs.Graph.{graph_of};
 

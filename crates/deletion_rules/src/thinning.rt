@@ -1,7 +1,7 @@
 ghost use Rattle.std.specs.Prelude.{◌≡◌, ◌<◌, ℕ, [], Contains, length, IfOk, OnOk};
-ghost use Rattle.deletion_rules.specs.Edges.{AreEdges};
-ghost use Rattle.deletion_rules.specs.Lists.{list_at};
-ghost use Rattle.deletion_rules.specs.Thinning.{Deletes, IsLosing, IsThinned, IsThinning, Loses};
+ghost use Rattle.deletion_rules.specs.inside.Edges.{AreEdges};
+ghost use Rattle.deletion_rules.specs.inside.Lists.{list_at};
+ghost use Rattle.deletion_rules.specs.inside.Thinning.{Deletes, IsLosing, IsThinned, IsThinning, Loses};
 ghost use Rattle.deletion_rules.specs.declared.edges.Arrow.{Arrow};
 
 use crate::cursors::{cursors, flags, is_through};

@@ -1,7 +1,7 @@
 ghost use Rattle.std.specs.Prelude.{◌≡◌, ◌<◌, ℕ, ◌&&◌, ◌↔◌, Contains, IsTrue, length, true, OnOk};
-ghost use Rattle.deletion_rules.specs.Lists.{list_at};
-ghost use Rattle.deletion_rules.specs.Cursors.{AreCursors};
-ghost use Rattle.deletion_rules.specs.Spread.{IsAdmitted, IsArrowTo, IsNextTime, IsReaching, Visits};
+ghost use Rattle.deletion_rules.specs.inside.Lists.{list_at};
+ghost use Rattle.deletion_rules.specs.inside.Cursors.{AreCursors};
+ghost use Rattle.deletion_rules.specs.inside.Spread.{IsAdmitted, IsArrowTo, IsNextTime, IsReaching, Visits};
 ghost use Rattle.deletion_rules.specs.Targets.{IsTarget};
 ghost use Rattle.deletion_rules.specs.Tests.{has_member};
 ghost use Rattle.deletion_rules.specs.declared.edges.Arrow.{Arrow};

@@ -14,7 +14,7 @@ use Rattle.firing_journal.specs.Journal.{EntryFits}
 use Rattle.firing_journal.specs.Said.{Said, Says, head_line, entry_line, done_line, words_for}
 use Rattle.firing_journal.specs.Place.{Place, MayStand, after, before_head, among_entries}
 use Rattle.firing_journal.specs.Cause.{IsUnknown, MaySay, LacksHead, Blocks, ReadStands, IsRead, Stands, Takes}
-use Rattle.firing_journal.specs.View.{IsKnown, place_after, wish_of_numbers}
+use Rattle.firing_journal.specs.inside.View.{IsKnown, place_after, wish_of_numbers}
 use Rattle.firing_journal.proofs.Words.{bytes_of_words, says_head, says_once}
 
 abbrev NotStrict : Line → Type 0

@@ -6,7 +6,7 @@ use Rattle.text_cause.specs.declared.cause.TextCause.{TextCause}
 use Rattle.text_cause.specs.declared.cause.TextCause.TheVariants.{UnknownName}
 use Rattle.text_cause.specs.Cause.{IsLowest}
 use Rattle.text_cause.specs.Grammar.{StandsFor}
-use Rattle.text_cause.specs.Laws.{IsLawful}
+use Rattle.text_cause.specs.inside.Laws.{IsLawful}
 use Rattle.text_cause.proofs.Lowest.{from_row, one_each_row}
 use Rattle.text_cause.proofs.Reading.{IsReadTo, read_line}
 use Rattle.text_cause.proofs.Rows.{line_once}
@@ -15,7 +15,7 @@ use Rattle.conjunctive_compose.specs.declared.wish.Wish.{Wish}
 use Rattle.conjunctive_compose.specs.System.{SystemParts}
 use Rattle.firing_journal.specs.declared.journal.Entry.{Entry}
 use Rattle.firing_journal.specs.Journal.{EntryFits, JournalFits}
-use Rattle.firing_journal.specs.View.{IsFitting, grown, place_after}
+use Rattle.firing_journal.specs.inside.View.{IsFitting, grown, place_after}
 use Rattle.firing_journal.specs.Place.{Place, after, before_head, among_entries, after_done}
 use Rattle.firing_journal.specs.Cause.{Blocks, IsRead, IsUnknown, LacksHead, MaySay, ReadStands, Stands, Takes}
 use Rattle.firing_journal.specs.Text.{EndStands, Gives, journals}

@@ -5,4 +5,4 @@ pub mod Place
 pub mod Replay
 pub mod Said
 pub mod Text
-pub mod View
+pub mod inside

@@ -3,7 +3,7 @@ ghost use Rattle.std.specs.Option.{option_copied};
 ghost use Rattle.strict_text.specs.View.{line_of};
 ghost use Rattle.strict_text.specs.Words.{words_behind, words_of};
 ghost use Rattle.firing_journal.specs.Said.{Said, Says, SaysWords};
-ghost use Rattle.firing_journal.specs.View.{said};
+ghost use Rattle.firing_journal.specs.inside.View.{said};
 
 use strict_text::{Line, cut_word, number};
 

@@ -5,7 +5,7 @@ ghost use Rattle.strict_text.specs.View.{line_of};
 ghost use Rattle.firing_journal.specs.Cause.{Stands, Takes};
 ghost use Rattle.firing_journal.specs.Place.{among_entries, before_head};
 ghost use Rattle.firing_journal.specs.Said.{Says};
-ghost use Rattle.firing_journal.specs.View.{IsFitting, IsKnown, place_after, said, wish_of_numbers};
+ghost use Rattle.firing_journal.specs.inside.View.{IsFitting, IsKnown, place_after, said, wish_of_numbers};
 
 use crate::Journal;
 use crate::item::{Item, is_head, item_of};

@@ -5,7 +5,7 @@ use Rattle.formula_text.specs.declared.sign.Mark.TheVariants.{And, Or, Arrow, Cl
 use Rattle.formula_text.specs.declared.sign.Sign.{Sign}
 use Rattle.formula_text.specs.declared.sign.Sign.TheVariants.{Behind, Until}
 use Rattle.formula_text.specs.Tree.{Tree, leaf, prefixed, grouped, conjunction, disjunction, implication, waits, signs, Fits, tree_form}
-use Rattle.formula_text.specs.FormulaReading.{Part, formula, or, and, unary, or_more, and_more, Found, past, parse}
+use Rattle.formula_text.specs.inside.FormulaReading.{Part, formula, or, and, unary, or_more, and_more, Found, past, parse}
 use Rattle.formula_text.proofs.ReadingRules.{Gives, with_more, leaf_rule, prefix_rule, group_rule, wait_rule, and_rule, and_more_rule, and_ends, or_rule, or_more_rule, or_ends, formula_ends, arrow_rule}
 
 -- the fuel that the spelling takes where a unary stands

@@ -9,7 +9,7 @@ use Rattle.formula_text.specs.declared.sign.Prefix.{Prefix}
 use Rattle.formula_text.specs.declared.sign.Sign.{Sign}
 use Rattle.formula_text.specs.declared.sign.Sign.TheVariants.{Alone, Before, Open, Behind, Path, Until, Other}
 use Rattle.formula_text.specs.Tree.{Tree, leaf, prefixed, grouped, conjunction, disjunction, implication, waits, signs, Fits, tree_form, leaf_form, prefix_form}
-use Rattle.formula_text.specs.FormulaReading.{Part, formula, or, and, unary, or_more, and_more, group, wait, Found, ◌>>=◌, pick, mark_no, past, past_until, unary_at, parse}
+use Rattle.formula_text.specs.inside.FormulaReading.{Part, formula, or, and, unary, or_more, and_more, group, wait, Found, ◌>>=◌, pick, mark_no, past, past_until, unary_at, parse}
 
 bind_some : {X Y : Type 0} (o : Option X) (f : X → Option Y) (y : Y) → (o >>= f) ≡ Some y → (x : X) × (o ≡ Some x) × (f x ≡ Some y)
 bind_some None f y e = cc

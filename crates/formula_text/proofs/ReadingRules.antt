@@ -7,7 +7,7 @@ use Rattle.formula_text.specs.declared.sign.Prefix.{Prefix}
 use Rattle.formula_text.specs.declared.sign.Sign.{Sign}
 use Rattle.formula_text.specs.declared.sign.Sign.TheVariants.{Alone, Before, Open, Behind, Path, Until}
 use Rattle.formula_text.specs.Tree.{leaf_form, prefix_form}
-use Rattle.formula_text.specs.FormulaReading.{Part, formula, or, and, unary, or_more, and_more, Found, past, parse}
+use Rattle.formula_text.specs.inside.FormulaReading.{Part, formula, or, and, unary, or_more, and_more, Found, past, parse}
 
 -- with this much fuel or more, this is read
 pub record Gives (k : ℕ) (part : Part) (ss : List Sign) (x : Found) : Type 0 where

@@ -6,7 +6,7 @@ use Rattle.formula_text.specs.declared.sign.Mark.TheVariants.{And, Or, Arrow, Cl
 use Rattle.formula_text.specs.declared.sign.Sign.{Sign}
 use Rattle.formula_text.specs.declared.sign.Sign.TheVariants.{Behind, Until}
 use Rattle.formula_text.specs.Tree.{Tree, leaf, prefixed, grouped, conjunction, disjunction, implication, waits, signs, tree_form, Spells}
-use Rattle.formula_text.specs.FormulaReading.{formula, parse}
+use Rattle.formula_text.specs.inside.FormulaReading.{formula, parse}
 use Rattle.formula_text.proofs.ReadAgain.{cost, whole_again}
 use Rattle.formula_text.proofs.ReadTakes.{parse_takes}
 

@@ -1,7 +1,7 @@
 pub mod Canonical
-pub mod FormulaReading
 pub mod FormulaText
 pub mod Long
 pub mod Sign
 pub mod Token
 pub mod Tree
+pub mod inside

@@ -2,7 +2,7 @@ ghost use Rattle.std.specs.Prelude.{◌≡◌, ◌==◌, IfOk};
 ghost use Rattle.std.specs.Option.{option_map};
 ghost use Rattle.ctl_form.specs.Form.{form_of, both, either, implies, until};
 ghost use Rattle.formula_text.specs.Tree.{leaf_form, prefix_form};
-ghost use Rattle.formula_text.specs.FormulaReading.{past, past_until, parse, mark_no, formula, or, and, unary, or_more, and_more, group, wait};
+ghost use Rattle.formula_text.specs.inside.FormulaReading.{past, past_until, parse, mark_no, formula, or, and, unary, or_more, and_more, group, wait};
 
 use crate::sign::{Leaf, Mark, Prefix, Sign};
 use ctl_form::Formula;
@@ -108,7 +108,7 @@ fn joined_by_until(
 
 /// The formula that is read first, and the signs behind it. Each function of this cycle reads one level of the grammar.
 #[cycle(parser)]
-#[tactic(auto, unfolding(crate::specs::FormulaReading::parse))]
+#[tactic(auto, unfolding(crate::specs::inside::FormulaReading::parse))]
 pub(crate) fn parse_formula<'a>(
     alloc: Global,
     depth: usize,
@@ -132,7 +132,7 @@ pub(crate) fn parse_formula<'a>(
 }
 
 #[cycle(parser)]
-#[tactic(auto, unfolding(crate::specs::FormulaReading::parse))]
+#[tactic(auto, unfolding(crate::specs::inside::FormulaReading::parse))]
 fn parse_or<'a>(
     alloc: Global,
     depth: usize,
@@ -150,7 +150,7 @@ fn parse_or<'a>(
 }
 
 #[cycle(parser)]
-#[tactic(auto, unfolding(crate::specs::FormulaReading::parse))]
+#[tactic(auto, unfolding(crate::specs::inside::FormulaReading::parse))]
 fn parse_or_more<'a>(
     alloc: Global,
     depth: usize,
@@ -172,7 +172,7 @@ fn parse_or_more<'a>(
 }
 
 #[cycle(parser)]
-#[tactic(auto, unfolding(crate::specs::FormulaReading::parse))]
+#[tactic(auto, unfolding(crate::specs::inside::FormulaReading::parse))]
 fn parse_and<'a>(
     alloc: Global,
     depth: usize,
@@ -190,7 +190,7 @@ fn parse_and<'a>(
 }
 
 #[cycle(parser)]
-#[tactic(auto, unfolding(crate::specs::FormulaReading::parse))]
+#[tactic(auto, unfolding(crate::specs::inside::FormulaReading::parse))]
 fn parse_and_more<'a>(
     alloc: Global,
     depth: usize,
@@ -212,7 +212,7 @@ fn parse_and_more<'a>(
 }
 
 #[cycle(parser)]
-#[tactic(auto, unfolding(crate::specs::FormulaReading::parse))]
+#[tactic(auto, unfolding(crate::specs::inside::FormulaReading::parse))]
 fn parse_unary<'a>(
     alloc: Global,
     depth: usize,
@@ -244,7 +244,7 @@ fn parse_unary<'a>(
 
 /// A formula and the round parenthesis that closes it.
 #[cycle(parser)]
-#[tactic(auto, unfolding(crate::specs::FormulaReading::parse))]
+#[tactic(auto, unfolding(crate::specs::inside::FormulaReading::parse))]
 fn parse_group<'a>(
     alloc: Global,
     depth: usize,
@@ -266,7 +266,7 @@ fn parse_group<'a>(
 
 /// The two formulas of an until, in their square brackets.
 #[cycle(parser)]
-#[tactic(auto, unfolding(crate::specs::FormulaReading::parse))]
+#[tactic(auto, unfolding(crate::specs::inside::FormulaReading::parse))]
 fn parse_wait<'a>(
     alloc: Global,
     depth: usize,

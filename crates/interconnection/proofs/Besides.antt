@@ -4,7 +4,7 @@ use Rattle.std.proofs.lemmas.Bool.{cases_lt, cases_eq}
 use Rattle.std.proofs.lemmas.List.{get_or_append_left, get_or_push, length_push}
 use Rattle.std.proofs.lemmas.List.Sums.{count_by_more_yes, count_by_more_no}
 use Rattle.std.proofs.Math.Seq.{take-length}
-use Rattle.pair_structure.specs.FirstFailing.{IsFirstFailing}
+use Rattle.pair_structure.specs.inside.FirstFailing.{IsFirstFailing}
 use Rattle.pair_structure.specs.declared.side.Side.{Side}
 use Rattle.pair_structure.specs.declared.side.Side.TheVariants.{A, B}
 use Rattle.interconnection.specs.declared.limits.TheConstants.{MAX_NEIGHBOURS}

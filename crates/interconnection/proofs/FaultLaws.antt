@@ -2,7 +2,7 @@
 use Rattle.std.proofs.Common.{ℕ, ◌≡◌, ◌≢◌, ◌<◌, ◌≤◌, List, [], length, get_or, Some, arith, inl, inr, subst, refl}
 use Rattle.std.proofs.lemmas.Bool.{cases_lt, cases_eq}
 use Rattle.std.proofs.lemmas.List.{get_or_default}
-use Rattle.pair_structure.specs.FirstFailing.{IsFirstFailing}
+use Rattle.pair_structure.specs.inside.FirstFailing.{IsFirstFailing}
 use Rattle.pair_structure.specs.Role.{RoleParts}
 use Rattle.pair_structure.proofs.FirstLaws.{IsFirst-from_order}
 use Rattle.interconnection.specs.declared.fault.NetworkFault.{NetworkFault}
@@ -12,7 +12,7 @@ use Rattle.interconnection.specs.declared.parts.Edge.{Edge}
 use Rattle.interconnection.specs.declared.parts.Process.{Process}
 use Rattle.interconnection.specs.Graph.{JoinSame, degree_of, edge_at}
 use Rattle.interconnection.specs.Network.{AreRoles, AreLawful, HasRole, HasRoles, IsInRange, JoinsTwo, ends_of, role_of}
-use Rattle.interconnection.specs.NetworkCheck.{AreFew, AreParts, AreEdges, AreFitting, AreSingle, IsFailedAdjacency, IsFirstPassed, IsFirstTwice}
+use Rattle.interconnection.specs.inside.NetworkCheck.{AreFew, AreParts, AreEdges, AreFitting, AreSingle, IsFailedAdjacency, IsFirstPassed, IsFirstTwice}
 use Rattle.interconnection.specs.NetworkFault.{IsFirstNetworkFault, IsPassed, Stands, kind_of, place_of}
 
 none_passed : (roles kinds processes limit : ℕ) → AreFew roles kinds processes → IsPassed roles kinds processes limit → ⊥

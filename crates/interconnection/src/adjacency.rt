@@ -1,9 +1,9 @@
 ghost use Rattle.std.specs.Prelude.{◌≡◌, ◌↔◌, ◌<◌, ◌≤◌, ◌^◌, ℕ, length, Contains, IfOk, IfErr, IsTrue, OnOk};
-ghost use Rattle.pair_structure.specs.FirstFailing.{IsFirstFailing};
+ghost use Rattle.pair_structure.specs.inside.FirstFailing.{IsFirstFailing};
 ghost use Rattle.interconnection.specs.Around.{AreAlone, AreAround, IsGrown, IsOrdered, around_at};
 ghost use Rattle.interconnection.specs.Graph.{edge_at};
 ghost use Rattle.interconnection.specs.Network.{JoinsTwo};
-ghost use Rattle.interconnection.specs.NetworkCheck.{AreSingle, IsFailedAdjacency};
+ghost use Rattle.interconnection.specs.inside.NetworkCheck.{AreSingle, IsFailedAdjacency};
 
 use crate::neighbourhood::{Neighbourhood, has_number};
 use crate::{Beside, Edge, MAX_NEIGHBOURS, MAX_PROCESSES, NetworkFault};

@@ -1,9 +1,9 @@
 ghost use Rattle.std.specs.Prelude.{◌↔◌, ◌<◌, ◌^◌, length, List, MatchOption, IsTrue};
-ghost use Rattle.pair_structure.specs.FirstFailing.{IsFirstFailing};
+ghost use Rattle.pair_structure.specs.inside.FirstFailing.{IsFirstFailing};
 ghost use Rattle.pair_structure.specs.Role.{RoleParts};
 ghost use Rattle.interconnection.specs.Graph.{edge_at};
 ghost use Rattle.interconnection.specs.Network.{IsInRange, JoinsTwo, HasRoles};
-ghost use Rattle.interconnection.specs.NetworkCheck.{AreParts, AreEdges};
+ghost use Rattle.interconnection.specs.inside.NetworkCheck.{AreParts, AreEdges};
 ghost use Rattle.interconnection.specs.NetworkFault.{IsFirstNetworkFault};
 
 use crate::{Edge, NetworkFault, Process};

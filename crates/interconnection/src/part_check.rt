@@ -1,8 +1,8 @@
 ghost use Rattle.std.specs.Prelude.{◌<◌, length, List, MatchOption};
-ghost use Rattle.pair_structure.specs.FirstFailing.{IsFirstFailing};
+ghost use Rattle.pair_structure.specs.inside.FirstFailing.{IsFirstFailing};
 ghost use Rattle.interconnection.specs.declared.parts.Edge.{Edge};
 ghost use Rattle.interconnection.specs.Network.{ends_of, role_of};
-ghost use Rattle.interconnection.specs.NetworkCheck.{AreFew, AreParts, IsFirstPassed};
+ghost use Rattle.interconnection.specs.inside.NetworkCheck.{AreFew, AreParts, IsFirstPassed};
 ghost use Rattle.interconnection.specs.NetworkFault.{IsFirstNetworkFault};
 
 use crate::{MAX_KINDS, MAX_PROCESSES, MAX_ROLES, NetworkFault, Process};

@@ -3,7 +3,7 @@ use Rattle.std.proofs.Common.{ℕ, ◌≡◌, ◌<◌, ◌+◌, ◌⊎◌, ◌�
 use Rattle.std.proofs.lemmas.Bool.{cases_eq}
 use Rattle.std.proofs.lemmas.Grind.{common_steps}
 use Rattle.pair_structure.specs.declared.side.LocalArc.{LocalArc}
-use Rattle.pair_structure.specs.ArcTable.{is_marked, IsTableOf}
+use Rattle.pair_structure.specs.inside.ArcTable.{is_marked, IsTableOf}
 use Rattle.pair_structure.specs.Role.{HasArc}
 
 pub unmarked : (n m p q : ℕ) → is_marked (replicate n (replicate m false)) p q ≡ false

@@ -5,7 +5,7 @@ use Rattle.std.proofs.lemmas.List.{get_or_append_left, get_or_push}
 use Rattle.std.proofs.lemmas.List.Sums.{count_by_more_yes, count_by_more_no, sum_by-take-le}
 use Rattle.std.proofs.Math.Seq.{take-length}
 use Rattle.std.proofs.lemmas.Bool.Decides.{nat_tests}
-use Rattle.pair_structure.specs.LabelIndex.{IsListed, IsIndexBelow, label_list}
+use Rattle.pair_structure.specs.inside.LabelIndex.{IsListed, IsIndexBelow, label_list}
 use Rattle.pair_structure.specs.Ordinal.{is_same_label, ordinal_of, IsStateAt}
 use Rattle.pair_structure.specs.Structure.{label_at}
 

@@ -7,8 +7,8 @@ use Rattle.pair_structure.specs.declared.side.Move.{Move}
 use Rattle.pair_structure.specs.declared.side.Side.TheVariants.{A, B}
 use Rattle.pair_structure.specs.declared.side.Side.{Side}
 use Rattle.pair_structure.specs.Structure.{IsRising, IsBefore, side_number}
-use Rattle.pair_structure.specs.StructureCheck.{RisesAt}
-use Rattle.pair_structure.specs.Turn.{turn}
+use Rattle.pair_structure.specs.inside.StructureCheck.{RisesAt}
+use Rattle.pair_structure.specs.inside.Turn.{turn}
 
 from_stays : (x y : Move) → IsBefore x y → x.from ≤ y.from
 from_stays x y before = elim before [ inl lt ↦ omega (arith, lt) | inr same ↦ omega (arith, same.0) ]

@@ -5,7 +5,7 @@ use Rattle.std.proofs.lemmas.List.{get_or_default}
 use Rattle.pair_structure.specs.declared.side.LocalArc.{LocalArc}
 use Rattle.pair_structure.specs.declared.role_fault.RoleFault.{RoleFault}
 use Rattle.pair_structure.specs.declared.role_fault.RoleFault.TheVariants.{NoLocal, TooManyLocals, LocalTwice, StartRange, TooManyArcs, ArcRange, SelfArc, ArcTwice, NoArc}
-use Rattle.pair_structure.specs.Least.{IsLeast}
+use Rattle.pair_structure.specs.inside.Least.{IsLeast}
 use Rattle.pair_structure.specs.Role.{AreLawful, JoinsTwo, HasArcFrom}
 use Rattle.pair_structure.specs.RoleFault.{arc_at, HasEarlierName, EndsOutside, JoinsItself, HasEarlierEnds, IsNeverLeft, Stands, kind_of, place_of, IsFirstRoleFault, NoneBefore}
 use Rattle.pair_structure.proofs.AllPairsLaws.{AllPairs-from_none_earlier, none_earlier-from_AllPairs}

@@ -6,7 +6,7 @@ use Rattle.pair_structure.specs.declared.side.Move.{Move}
 use Rattle.pair_structure.specs.declared.side.Side.{Side}
 use Rattle.pair_structure.specs.declared.side.Side.TheVariants.{A, B}
 use Rattle.pair_structure.specs.Structure.{Structure, HasMove, Reaches, IsRising}
-use Rattle.pair_structure.specs.StructureCheck.{IsLeft}
+use Rattle.pair_structure.specs.inside.StructureCheck.{IsLeft}
 use Rattle.pair_structure.specs.StructureFault.{move_at}
 use Rattle.pair_structure.proofs.Rising.{from_rises}
 

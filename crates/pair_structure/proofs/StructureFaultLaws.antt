@@ -10,7 +10,7 @@ use Rattle.pair_structure.specs.declared.structure_fault.StructureFault.TheVaria
 use Rattle.pair_structure.specs.First.{ComesFirst}
 use Rattle.pair_structure.specs.Role.{RoleParts}
 use Rattle.pair_structure.specs.Structure.{IsBefore, IsLawfulMove, IsPairStructure}
-use Rattle.pair_structure.specs.StructureCheck.{AreLabelled, AreMoves, RisesAt, IsLeft}
+use Rattle.pair_structure.specs.inside.StructureCheck.{AreLabelled, AreMoves, RisesAt, IsLeft}
 use Rattle.pair_structure.specs.StructureFault.{Stands, kind_of, place_of, move_at, IsFirstStructureFault}
 use Rattle.pair_structure.proofs.Rising.{IsRising-from_each}
 use Rattle.pair_structure.proofs.StatesLeft.{left_from_reach, reach_from_left}

@@ -7,7 +7,7 @@ use Rattle.pair_structure.specs.declared.side.Move.{Move}
 use Rattle.pair_structure.specs.declared.side.Side.{Side}
 use Rattle.pair_structure.specs.declared.side.Side.TheVariants.{A, B}
 use Rattle.pair_structure.specs.Ordinal.{leaves}
-use Rattle.pair_structure.specs.Turn.{turn}
+use Rattle.pair_structure.specs.inside.Turn.{turn}
 use Rattle.pair_structure.proofs.Middle.{take_is_filter}
 
 -- a move leaves a state by a side where its turn is theirs

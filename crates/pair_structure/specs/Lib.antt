@@ -1,8 +1,4 @@
-pub mod ArcTable
 pub mod First
-pub mod FirstFailing
-pub mod LabelIndex
-pub mod Least
 pub mod Lists
 pub mod Name
 pub mod Ordinal
@@ -11,6 +7,5 @@ pub mod Role
 pub mod RoleFault
 pub mod Sides
 pub mod Structure
-pub mod StructureCheck
 pub mod StructureFault
-pub mod Turn
+pub mod inside

@@ -1,5 +1,5 @@
 ghost use Rattle.std.specs.Prelude.{◌≡◌, ◌<◌, ℕ, All, false, true, slice_index_or, slice_set, length};
-ghost use Rattle.pair_structure.specs.ArcTable.{is_marked, IsInTable, IsTableOf};
+ghost use Rattle.pair_structure.specs.inside.ArcTable.{is_marked, IsInTable, IsTableOf};
 
 use crate::{LocalArc, MAX_LOCALS};
 

@@ -15,7 +15,7 @@ pub(crate) struct LabelIndex {
 
 impl Model for LabelIndex {
     ghost use Rattle.std.specs.Prelude.{List, ℕ};
-    ghost use Rattle.pair_structure.specs.LabelIndex.{IsIndexOf};
+    ghost use Rattle.pair_structure.specs.inside.LabelIndex.{IsIndexOf};
 
     ghost Value = { List (ℕ × ℕ) };
 

@@ -1,5 +1,5 @@
 ghost use Rattle.std.specs.Prelude.{◌≡◌, ◌<◌, ◌++◌, ◌∷◌, [], ℕ, length, OnOk};
-ghost use Rattle.pair_structure.specs.LabelIndex.{label_list};
+ghost use Rattle.pair_structure.specs.inside.LabelIndex.{label_list};
 ghost use Rattle.pair_structure.specs.Lists.{list_at};
 
 use crate::Lists;

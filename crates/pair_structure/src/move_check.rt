@@ -1,8 +1,8 @@
 ghost use Rattle.std.specs.Prelude.{◌≡◌, ◌↔◌, ◌<◌, ◌≤◌, ℕ, All, IsTrue, length};
-ghost use Rattle.pair_structure.specs.ArcTable.{IsInTable, IsTableOf};
-ghost use Rattle.pair_structure.specs.FirstFailing.{IsFirstFailing};
+ghost use Rattle.pair_structure.specs.inside.ArcTable.{IsInTable, IsTableOf};
+ghost use Rattle.pair_structure.specs.inside.FirstFailing.{IsFirstFailing};
 ghost use Rattle.pair_structure.specs.Structure.{OtherStays, IsBefore, IsRising};
-ghost use Rattle.pair_structure.specs.StructureCheck.{IsInRange, FollowsArc, KeepsOther, RisesAt, IsLeft};
+ghost use Rattle.pair_structure.specs.inside.StructureCheck.{IsInRange, FollowsArc, KeepsOther, RisesAt, IsLeft};
 
 use crate::arc_table::ArcTable;
 use crate::{LocalArc, Move, Side};

@@ -3,7 +3,7 @@ ghost use Rattle.std.specs.List.Sorted.{IsPartitionPoint};
 ghost use Rattle.pair_structure.specs.declared.side.Move.{Move};
 ghost use Rattle.pair_structure.specs.Ordinal.{leaves};
 ghost use Rattle.pair_structure.specs.Structure.{IsRising};
-ghost use Rattle.pair_structure.specs.Turn.{turn};
+ghost use Rattle.pair_structure.specs.inside.Turn.{turn};
 
 use crate::{Move, Side};
 

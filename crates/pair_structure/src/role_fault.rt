@@ -1,6 +1,6 @@
 ghost use Rattle.std.specs.Prelude.{◌≡◌, ◌↔◌, ◌<◌, ◌≤◌, ℕ, List, length, Any, IsTrue, MatchOption, IfNone};
 ghost use Rattle.pair_structure.specs.declared.side.LocalArc.{LocalArc};
-ghost use Rattle.pair_structure.specs.Least.{IsLeast};
+ghost use Rattle.pair_structure.specs.inside.Least.{IsLeast};
 ghost use Rattle.pair_structure.specs.Role.{AreLawful, HasArc, HasArcFrom};
 ghost use Rattle.pair_structure.specs.RoleFault.{IsFirstRoleFault, NoneBefore, HasEarlierName, EndsOutside, JoinsItself, HasEarlierEnds, IsNeverLeft};
 

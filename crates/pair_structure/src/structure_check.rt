@@ -1,9 +1,9 @@
 ghost use Rattle.std.specs.Prelude.{◌≡◌, ◌<◌, ◌↔◌, ℕ, All, IsTrue, List, length, MatchOption};
-ghost use Rattle.pair_structure.specs.ArcTable.{IsInTable};
+ghost use Rattle.pair_structure.specs.inside.ArcTable.{IsInTable};
 ghost use Rattle.pair_structure.specs.declared.side.Move.{Move};
-ghost use Rattle.pair_structure.specs.FirstFailing.{IsFirstFailing};
+ghost use Rattle.pair_structure.specs.inside.FirstFailing.{IsFirstFailing};
 ghost use Rattle.pair_structure.specs.Structure.{IsPairStructure};
-ghost use Rattle.pair_structure.specs.StructureCheck.{AreLabelled, AreMoves, IsLabelBelow};
+ghost use Rattle.pair_structure.specs.inside.StructureCheck.{AreLabelled, AreMoves, IsLabelBelow};
 ghost use Rattle.pair_structure.specs.StructureFault.{IsFirstStructureFault};
 
 use crate::move_check::{

@@ -2,7 +2,7 @@
 use Rattle.std.proofs.Common.{ℕ, ◌≡◌, ◌<◌, ◌+◌, List, length, AllPairs, below_more, ◌∙◌, sym}
 use Rattle.pair_structure.specs.declared.side.LocalArc.{LocalArc}
 use Rattle.pair_structure.specs.Parts.{arc_at}
-use Rattle.skeleton_extract.specs.ArcNumbers.{AreApart, IsNumberingBelow, number_at}
+use Rattle.skeleton_extract.specs.inside.ArcNumbers.{AreApart, IsNumberingBelow, number_at}
 
 -- one more arc; its ends are not those of an earlier one
 pub IsNumberingBelow-more : (rows put : List (List ℕ)) (arcs : List LocalArc) (n : ℕ) → n < length arcs → AllPairs AreApart arcs → number_at put (arc_at arcs n).from (arc_at arcs n).to ≡ n

@@ -13,11 +13,11 @@ use Rattle.pair_structure.specs.Role.{RoleParts, HasArc}
 use Rattle.pair_structure.specs.Parts.{arc_at}
 use Rattle.pair_structure.specs.Structure.{Structure, IsOver, IsLawfulMove, TakesArc, label_at}
 use Rattle.skeleton_extract.specs.declared.command.Command.{Command}
-use Rattle.skeleton_extract.specs.ArcNumbers.{IsNumbering, number_at}
+use Rattle.skeleton_extract.specs.inside.ArcNumbers.{IsNumbering, number_at}
 use Rattle.pair_structure.specs.Sides.{arcs_of, local_of}
 use Rattle.pair_structure.specs.Lists.{list_at}
 use Rattle.skeleton_extract.specs.Commands.{AllRise, AreListed, IsCommand, IsListed, IsRising, IsSkeleton, Lists, commands_of, lists_of}
-use Rattle.skeleton_extract.specs.Gathered.{AreArranged, AreFollowed, AreGathered, FollowsArc, command_of, comes_to, given_on, leaves_at, number_of, takes}
+use Rattle.skeleton_extract.specs.inside.Gathered.{AreArranged, AreFollowed, AreGathered, FollowsArc, command_of, comes_to, given_on, leaves_at, number_of, takes}
 use Rattle.skeleton_extract.proofs.Sides.{is_same_side_itself, side_from_is_same}
 
 -- what a move takes, by its side and its two local states

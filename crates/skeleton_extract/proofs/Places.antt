@@ -8,7 +8,7 @@ use Rattle.pair_structure.proofs.Middle.{take_is_filter}
 use Rattle.skeleton_extract.specs.declared.command.Command.{Command}
 use Rattle.skeleton_extract.specs.Commands.{IsBelow, IsRising}
 use Rattle.skeleton_extract.specs.Permission.{is_permitted, permitted_of}
-use Rattle.skeleton_extract.specs.Place.{comes_before, comes_by}
+use Rattle.skeleton_extract.specs.inside.Place.{comes_before, comes_by}
 
 -- a test that each lower command passes with a higher one
 parted : (p : Command → Bool) (commands : List Command) → ((c d : Command) → IsBelow c d → p d ≡ true → p c ≡ true) → IsRising commands → IsPartitionedBy p commands

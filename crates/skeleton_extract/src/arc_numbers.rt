@@ -1,7 +1,7 @@
 ghost use Rattle.std.specs.Prelude.{◌≡◌, ◌<◌, ◌≤◌, ℕ, All, AllPairs, length, slice_index_or};
 ghost use Rattle.pair_structure.specs.declared.side.LocalArc.{LocalArc};
-ghost use Rattle.pair_structure.specs.ArcTable.{IsInTable};
-ghost use Rattle.skeleton_extract.specs.ArcNumbers.{AreApart, IsNumbering, number_at};
+ghost use Rattle.pair_structure.specs.inside.ArcTable.{IsInTable};
+ghost use Rattle.skeleton_extract.specs.inside.ArcNumbers.{AreApart, IsNumbering, number_at};
 
 use pair_structure::{LocalArc, MAX_ARCS, MAX_LOCALS, Role};
 

@@ -2,7 +2,7 @@ ghost use Rattle.std.specs.Prelude.{◌≡◌, ◌<◌, ◌++◌, ◌∷◌, ◌
 ghost use Rattle.skeleton_extract.specs.declared.command.Command.{Command};
 ghost use Rattle.pair_structure.specs.Lists.{AreEmpty, list_at};
 ghost use Rattle.skeleton_extract.specs.Commands.{IsRising};
-ghost use Rattle.skeleton_extract.specs.Gathered.{AreArranged};
+ghost use Rattle.skeleton_extract.specs.inside.Gathered.{AreArranged};
 
 use crate::Command;
 use std::alloc::{AllocError, Global};

@@ -1,7 +1,7 @@
 ghost use Rattle.std.specs.Prelude.{◌≡◌, ◌<◌, IfOk, length};
 ghost use Rattle.pair_structure.specs.Structure.{IsOver};
 ghost use Rattle.skeleton_extract.specs.Commands.{AreListed, IsSkeleton};
-ghost use Rattle.skeleton_extract.specs.Gathered.{AreFollowed, AreGathered, command_of, number_of};
+ghost use Rattle.skeleton_extract.specs.inside.Gathered.{AreFollowed, AreGathered, command_of, number_of};
 
 use crate::arc_numbers::ArcNumbers;
 use crate::command_lists::CommandLists;

@@ -3,7 +3,7 @@ ghost use Rattle.std.specs.List.Sorted.{IsPartitionPoint};
 ghost use Rattle.skeleton_extract.specs.declared.command.Command.{Command};
 ghost use Rattle.skeleton_extract.specs.Commands.{IsRising};
 ghost use Rattle.skeleton_extract.specs.Permission.{permitted_of};
-ghost use Rattle.skeleton_extract.specs.Place.{comes_before, comes_by};
+ghost use Rattle.skeleton_extract.specs.inside.Place.{comes_before, comes_by};
 
 use crate::Command;
 

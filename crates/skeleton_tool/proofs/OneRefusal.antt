@@ -5,7 +5,7 @@ use Rattle.ctl_form.specs.declared.pair_spec.PairSpec.{PairSpec}
 use Rattle.conjunctive_compose.specs.System.{SystemParts}
 use Rattle.text_cause.specs.declared.cause.TextCause.{TextCause}
 use Rattle.text_cause.specs.Grammar.{Grammar, IsRefused}
-use Rattle.text_cause.specs.Laws.{IsLawful, IsSameRefusal}
+use Rattle.text_cause.specs.inside.Laws.{IsLawful, IsSameRefusal}
 use Rattle.text_cause.proofs.TextLaws.{one_refusal}
 use Rattle.ctl_text.specs.State.{first_state}
 use Rattle.ctl_text.specs.Text.{IsRefused as IsSpecRefused, specifications}

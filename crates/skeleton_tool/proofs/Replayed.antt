@@ -14,7 +14,7 @@ use Rattle.conjunctive_compose.specs.Run.{after}
 use Rattle.conjunctive_compose.proofs.Edges.{edge_lawful}
 use Rattle.conjunctive_compose.proofs.Runs.{reachable_is_proper}
 use Rattle.firing_journal.specs.Replay.{LeavesWhole, IsFirstStuck}
-use Rattle.skeleton_tool.specs.Telling.{IsRefusal}
+use Rattle.skeleton_tool.specs.inside.Telling.{IsRefusal}
 
 -- what a run leaves is proper
 pub run_proper : (sys : SystemParts) (run : List Wish) (w : WholeParts) (moves : List ℕ) → IsSystem sys → LeavesWhole sys run w moves → IsProper sys w

@@ -8,7 +8,7 @@ use Rattle.ctl_form.specs.declared.pair_spec.PairSpec.{PairSpec}
 use Rattle.ctl_form.specs.Kind.{role_at}
 use Rattle.solution_text.specs.SolutionText.{AreOver}
 use Rattle.solution_text.proofs.Satisfied.{over_count}
-use Rattle.skeleton_tool.specs.Showing.{ShowsKind, ShowsKinds}
+use Rattle.skeleton_tool.specs.inside.Showing.{ShowsKind, ShowsKinds}
 use Rattle.skeleton_tool.specs.Skel.{AreSkeletons, kind_skeleton, kind_skeletons}
 
 -- a kind joins those before it

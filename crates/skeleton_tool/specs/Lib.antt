@@ -7,9 +7,7 @@ pub mod OneAnswer
 pub mod Reading
 pub mod Refusal
 pub mod Replay
-pub mod Showing
 pub mod Skel
 pub mod Status
 pub mod Taking
-pub mod Telling
-pub mod View
+pub mod inside

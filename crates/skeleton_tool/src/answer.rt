@@ -2,7 +2,7 @@ ghost use Rattle.std.specs.Prelude.{◌≡◌, ◌<◌, [], IfOk, All, length, S
 ghost use Rattle.skeleton_tool.specs.Answer.{IsAnswer, AnswersCommand};
 ghost use Rattle.skeleton_tool.specs.Command.{command_of, asked_files, words_of};
 ghost use Rattle.skeleton_tool.specs.Taking.{shelf_seen, EndsAs, KeepsShelf};
-ghost use Rattle.skeleton_tool.specs.View.{command_value};
+ghost use Rattle.skeleton_tool.specs.inside.View.{command_value};
 
 use crate::command::{Command, command_in};
 use crate::proving::prove;

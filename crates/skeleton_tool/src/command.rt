@@ -1,7 +1,7 @@
 ghost use Rattle.std.specs.Prelude.{◌≡◌};
 ghost use Rattle.std.specs.Option.{option_map};
 ghost use Rattle.skeleton_tool.specs.Command.{command_of, command_on, command_over, words_of, begins_with_dash};
-ghost use Rattle.skeleton_tool.specs.View.{command_value};
+ghost use Rattle.skeleton_tool.specs.inside.View.{command_value};
 
 /// A command, with the words of its files.
 #[derive(Clone, Copy, Debug)]

@@ -2,7 +2,7 @@ ghost use Rattle.std.specs.Prelude.{◌≡◌, ◌<◌, ◌++◌, OnOk, decimal,
 ghost use Rattle.conjunctive_compose.specs.System.{edge_count, process_count, role_of};
 ghost use Rattle.conjunctive_compose.specs.Whole.{IsProper};
 ghost use Rattle.skeleton_tool.specs.Replay.{away_text, blocked_text, edge_line, edges_text, local_name, process_line, process_name, processes_text, run_text, stuck_text};
-ghost use Rattle.skeleton_tool.specs.Telling.{IsRefusal};
+ghost use Rattle.skeleton_tool.specs.inside.Telling.{IsRefusal};
 
 use conjunctive_compose::{StepAnswer, System, Whole};
 use itoa::Buffer;

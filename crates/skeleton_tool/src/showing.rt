@@ -3,7 +3,7 @@ ghost use Rattle.pair_structure.specs.Structure.{IsOver};
 ghost use Rattle.ctl_form.specs.Kind.{role_at};
 ghost use Rattle.skeleton_tool.specs.Answer.{AnswersBoth};
 ghost use Rattle.skeleton_tool.specs.Command.{spec_limit, solution_limit};
-ghost use Rattle.skeleton_tool.specs.Showing.{ShowsKind, ShowsKinds};
+ghost use Rattle.skeleton_tool.specs.inside.Showing.{ShowsKind, ShowsKinds};
 ghost use Rattle.skeleton_tool.specs.Skel.{Skels};
 ghost use Rattle.skeleton_tool.specs.Taking.{shelf_seen, EndsAs, KeepsShelf};
 ghost use Rattle.solution_text.specs.Answers.{HasRoles};

@@ -7,7 +7,7 @@ use Rattle.ctl_form.specs.declared.pair_spec.PairSpec.{PairSpec}
 use Rattle.text_cause.specs.declared.cause.TextCause.{TextCause}
 use Rattle.text_cause.specs.declared.cause.TextCause.TheVariants.{UnknownName, NotAPair}
 use Rattle.text_cause.specs.Cause.{IsLowest, cause_no}
-use Rattle.text_cause.specs.Laws.{IsLawful}
+use Rattle.text_cause.specs.inside.Laws.{IsLawful}
 use Rattle.text_cause.proofs.Lowest.{From, OneEach, from_row, from_or, one_each_row}
 use Rattle.text_cause.proofs.Rows.{line_once}
 use Rattle.strict_text.specs.Lines.{Line, IsStrict}

@@ -6,4 +6,4 @@ pub mod Laws
 pub mod SolutionText
 pub mod State
 pub mod Text
-pub mod View
+pub mod inside

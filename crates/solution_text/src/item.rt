@@ -3,7 +3,7 @@ ghost use Rattle.pair_structure.specs.declared.side.Move.{Move as MoveValue};
 ghost use Rattle.pair_structure.specs.declared.side.Side.{Side as SideValue};
 ghost use Rattle.strict_text.specs.Words.{words_of};
 ghost use Rattle.solution_text.specs.Item.{Said, Says, side_word, IsMoveText};
-ghost use Rattle.solution_text.specs.View.{said};
+ghost use Rattle.solution_text.specs.inside.View.{said};
 
 use pair_structure::{Move, Side, is_name};
 use strict_text::{cut_word, number};

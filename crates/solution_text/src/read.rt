@@ -5,7 +5,7 @@ ghost use Rattle.text_cause.specs.Answers.{IsFaultAt};
 ghost use Rattle.solution_text.specs.SolutionText.{AreOver};
 ghost use Rattle.solution_text.specs.Answers.{HasRoles, IsRefusal};
 ghost use Rattle.solution_text.specs.Text.{IsSolutionText, IsRefused, Gives, EndStands};
-ghost use Rattle.solution_text.specs.View.{state_of};
+ghost use Rattle.solution_text.specs.inside.View.{state_of};
 
 use crate::reader::{Place, Reader};
 use crate::solution::Solution;

@@ -1,6 +1,6 @@
 ghost use Rattle.std.specs.Prelude.{◌↔◌, IsTrue};
 ghost use Rattle.solution_text.specs.State.{MayStand};
-ghost use Rattle.solution_text.specs.View.{group_of, said};
+ghost use Rattle.solution_text.specs.inside.View.{group_of, said};
 
 use crate::item::Item;
 use ctl_form::PairSpec;

@@ -10,7 +10,7 @@ ghost use Rattle.solution_text.specs.State.{MayStand, opened, behind, with_state
 ghost use Rattle.solution_text.specs.Cause.{LacksHead, LabelBlocks, PairBlocks, KindBlocks, StateBlocks, EndBlocks, IsWhole, Blocks, Stands, MaySay, Takes};
 ghost use Rattle.text_cause.specs.Answers.{IsBadBy};
 ghost use Rattle.solution_text.specs.Answers.{HasRoles, IsTakenAs};
-ghost use Rattle.solution_text.specs.View.{group_of, state_of, said};
+ghost use Rattle.solution_text.specs.inside.View.{group_of, state_of, said};
 
 use crate::item::{Item, said_by};
 use crate::reader::{Place, Reader, may_stand};

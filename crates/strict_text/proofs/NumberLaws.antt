@@ -6,7 +6,7 @@ use Rattle.std.proofs.lemmas.Str.Parse.{IsNumeralModel, numerals_by_value, tells
 use Rattle.std.proofs.lemmas.Str.{IsUtf8-from_ascii}
 use Rattle.std.specs.Str.{IsUtf8}
 use Rattle.std.specs.Str.Parse.{AllDigits, digits_value, ParsesUnsigned}
-use Rattle.strict_text.specs.Number.{begins_plainly, is_leading}
+use Rattle.strict_text.specs.inside.Number.{begins_plainly, is_leading}
 use Rattle.strict_text.specs.Spaced.{IsWord}
 
 own : IsNumeralModel (AllDigits 10) (digits_value 10)

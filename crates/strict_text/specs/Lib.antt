@@ -1,5 +1,5 @@
 pub mod Lines
-pub mod Number
 pub mod Spaced
 pub mod View
 pub mod Words
+pub mod inside

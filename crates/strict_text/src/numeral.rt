@@ -1,5 +1,5 @@
 ghost use Rattle.std.specs.Prelude.{◌≡◌, ◌<◌, ◌^◌, ℕ, true, IfSome, IfNone, decimal};
-ghost use Rattle.strict_text.specs.Number.{begins_plainly, is_leading};
+ghost use Rattle.strict_text.specs.inside.Number.{begins_plainly, is_leading};
 
 /// The number whose decimal text the word is, if there is one below 2^64: `04` and `+4` are the text of none. Takes no memory.
 pub fn number(word: &[u8]) -> Option<u64>

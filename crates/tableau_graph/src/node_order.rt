@@ -1,4 +1,4 @@
-ghost use Rattle.tableau_graph.specs.NodeOrder.{and_exact, or_exact};
+ghost use Rattle.tableau_graph.specs.inside.NodeOrder.{and_exact, or_exact};
 
 use crate::node_table::Node;
 use crate::{AndNode, OrNode};

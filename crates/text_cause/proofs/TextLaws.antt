@@ -5,7 +5,7 @@ use Rattle.text_cause.specs.declared.cause.TextFault.{TextFault}
 use Rattle.text_cause.specs.declared.cause.TextFault.TheVariants.{At, Memory}
 use Rattle.text_cause.specs.Grammar.{Grammar, StandsFor, RefusedAt, IsText, IsRefused}
 use Rattle.text_cause.specs.Answers.{IsRefusal, IsFaultAt}
-use Rattle.text_cause.specs.Laws.{IsLawful, IsSameRefusal, OneValue, NeverBoth, OneRefusal}
+use Rattle.text_cause.specs.inside.Laws.{IsLawful, IsSameRefusal, OneValue, NeverBoth, OneRefusal}
 
 module _ {State Line Value : Type 0} (g : Grammar State Line Value) (lawful : IsLawful g) where
   pub stands_once : (s : State) (lines : List Line) (v w : Value) → StandsFor g s lines v → StandsFor g s lines w → v ≡ w

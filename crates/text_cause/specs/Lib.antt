@@ -1,4 +1,4 @@
 pub mod Answers
 pub mod Cause
 pub mod Grammar
-pub mod Laws
+pub mod inside

@@ -2,8 +2,8 @@
 use Rattle.std.proofs.Common.{ℕ, ◌≡◌, ◌⊎◌, ◌≤◌, ◌&&◌, inl, inr, Bool, true, false, cond, Option, Some, None, List, [], ◌∷◌, Contains, refl, subst, sym, arith, ◌∙◌, nat_lt}
 use Rattle.std.proofs.lemmas.Bool.{and_parts}
 use Rattle.std.proofs.lemmas.List.Elements.{Contains-append_left, Contains-append_right, Contains-append_cases, Contains-push, Contains-push_cases}
-use Rattle.deletion_rules.specs.Picking.{IsBest}
-use Rattle.unravel.specs.Choice.{best_from, is_lower}
+use Rattle.deletion_rules.specs.inside.Picking.{IsBest}
+use Rattle.unravel.specs.inside.Choice.{best_from, is_lower}
 
 in_front : (n : ℕ) (ns : List ℕ) → Contains (n ∷ ns) n
 in_front n ns = Contains-append_left (n ∷ []) ns n (Contains-push [] n)

@@ -15,8 +15,8 @@ use Rattle.tableau_graph.specs.TableauParts.{edges_at, is_some_next, one_more, s
 use Rattle.tableau_graph.proofs.Places.{kept_before}
 use Rattle.deletion_rules.specs.Pruned.{RankParts}
 use Rattle.deletion_rules.specs.declared.position.Position.{Position}
-use Rattle.unravel.specs.Growing.{IsGrown, IsSideIn, IsSideOf, IsTurn, nowhere, position_at}
-use Rattle.unravel.specs.Pursuit.{IsGoodFor, IsPickFor}
+use Rattle.unravel.specs.inside.Growing.{IsGrown, IsSideIn, IsSideOf, IsTurn, nowhere, position_at}
+use Rattle.unravel.specs.inside.Pursuit.{IsGoodFor, IsPickFor}
 use Rattle.unravel.specs.declared.growing.Turn.{Turn}
 use Rattle.deletion_rules.specs.declared.target.Target.{Target}
 use Rattle.unravel.proofs.GrowingLaws.{grown_more, grown_next, grown_skip}

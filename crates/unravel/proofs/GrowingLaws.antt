@@ -16,9 +16,9 @@ use Rattle.tableau_graph.specs.NodeTable.{IsNumber}
 use Rattle.deletion_rules.specs.Pruned.{RankParts}
 use Rattle.deletion_rules.specs.Unravel.{IsStep}
 use Rattle.deletion_rules.specs.declared.position.Position.{Position}
-use Rattle.unravel.specs.Choice.{plan_of}
-use Rattle.unravel.specs.Growing.{HasStepFor, IsExpanded, IsGrown, IsLinkFor, IsMoveFor, nowhere, position_at}
-use Rattle.unravel.specs.Pursuit.{IsGoodFor, IsPickFor}
+use Rattle.unravel.specs.inside.Choice.{plan_of}
+use Rattle.unravel.specs.inside.Growing.{HasStepFor, IsExpanded, IsGrown, IsLinkFor, IsMoveFor, nowhere, position_at}
+use Rattle.unravel.specs.inside.Pursuit.{IsGoodFor, IsPickFor}
 use Rattle.deletion_rules.specs.declared.target.Target.{Target}
 
 -- the positions so far keep their places

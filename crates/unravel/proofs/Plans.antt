@@ -9,11 +9,11 @@ use Rattle.closure_sets.specs.ClosureParts.{after, count}
 use Rattle.closure_sets.specs.Full.{Has}
 use Rattle.tableau_graph.specs.Graph.{graph_of}
 use Rattle.deletion_rules.specs.Deletion.{HasLower, Falls}
-use Rattle.deletion_rules.specs.Picking.{IsPlan, or_zero}
+use Rattle.deletion_rules.specs.inside.Picking.{IsPlan, or_zero}
 use Rattle.deletion_rules.specs.Pruned.{RankParts, lives_at, rank_at}
-use Rattle.unravel.specs.Alive.{IsAlive}
+use Rattle.unravel.specs.inside.Alive.{IsAlive}
 use Rattle.deletion_rules.specs.Unravel.{HasTargets, IsPending}
-use Rattle.unravel.specs.Choice.{falls_by, has_lower, is_below, is_lower_at, keep_of, member_of, plan_of}
+use Rattle.unravel.specs.inside.Choice.{falls_by, has_lower, is_below, is_lower_at, keep_of, member_of, plan_of}
 use Rattle.deletion_rules.specs.Targets.{AreTargets, no_target, target_in}
 use Rattle.deletion_rules.specs.declared.target.Target.{Target}
 

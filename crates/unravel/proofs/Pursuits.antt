@@ -10,9 +10,9 @@ use Rattle.closure_sets.specs.Full.{Has}
 use Rattle.closure_sets.specs.Label.{part_of}
 use Rattle.closure_sets.specs.Row.{Members}
 use Rattle.deletion_rules.specs.Unravel.{IsPending}
-use Rattle.unravel.specs.Choice.{member_of}
+use Rattle.unravel.specs.inside.Choice.{member_of}
 use Rattle.deletion_rules.specs.Targets.{AreTargets, IsTarget, no_target, target_in}
-use Rattle.unravel.specs.Targets.{pends, pends_at}
+use Rattle.unravel.specs.inside.Targets.{pends, pends_at}
 use Rattle.deletion_rules.specs.declared.target.Target.{Target}
 
 same_second : (part : Part) (all all' : Bool) (f f' q q' : ℕ) → part ≡ Until all false f q → part ≡ Until all' false f' q' → q ≡ q'

@@ -6,16 +6,16 @@ use Rattle.pair_structure.specs.declared.side.Side.{Side}
 use Rattle.closure_sets.specs.ClosureParts.{ClosureParts}
 use Rattle.tableau_graph.specs.Graph.{Graph, IsSomeNext, FollowArcs, graph_of}
 use Rattle.tableau_graph.proofs.Expanded.{tableau_follows_arcs}
-use Rattle.deletion_rules.specs.Picking.{IsBest, IsNextPlace, IsPlan}
+use Rattle.deletion_rules.specs.inside.Picking.{IsBest, IsNextPlace, IsPlan}
 use Rattle.deletion_rules.specs.Pruned.{RankParts, lives_at, rank_at}
-use Rattle.unravel.specs.Alive.{IsAlive}
+use Rattle.unravel.specs.inside.Alive.{IsAlive}
 use Rattle.deletion_rules.specs.Unravel.{IsKeptBy, IsPending, IsStep, MovesOn, StaysWhilePending, Pends, target}
 use Rattle.deletion_rules.specs.declared.position.Position.{Position}
 use Rattle.deletion_rules.proofs.Pending.{one_kind}
 use Rattle.deletion_rules.proofs.Picks.{each_step, kept_step, other_step, good_at}
-use Rattle.unravel.specs.Choice.{member_of, plan_of}
-use Rattle.unravel.specs.Pursuit.{AreAllTargets, IsGoodFor, IsPickFor, IsPursuit, is_pursued}
-use Rattle.unravel.specs.Targets.{pends_at, places}
+use Rattle.unravel.specs.inside.Choice.{member_of, plan_of}
+use Rattle.unravel.specs.inside.Pursuit.{AreAllTargets, IsGoodFor, IsPickFor, IsPursuit, is_pursued}
+use Rattle.unravel.specs.inside.Targets.{pends_at, places}
 use Rattle.unravel.specs.declared.pursuit.Pursuit.{Pursuit}
 use Rattle.unravel.specs.declared.pursuit.Pursuit.TheVariants.{Each, Along, Idle}
 use Rattle.deletion_rules.specs.declared.target.Target.{Target}

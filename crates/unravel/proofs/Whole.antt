@@ -11,14 +11,14 @@ use Rattle.tableau_graph.proofs.Expanded.{tableau_follows_arcs, tableau_starts}
 use Rattle.deletion_rules.specs.Pruned.{RankParts, lives_at, rank_at}
 use Rattle.deletion_rules.specs.Satisfying.{Satisfies, UnravelledSatisfies}
 use Rattle.deletion_rules.specs.Unravel.{HasTargets, IsStep, IsUnravelled, Plan}
-use Rattle.deletion_rules.specs.Picking.{IsPlan}
+use Rattle.deletion_rules.specs.inside.Picking.{IsPlan}
 use Rattle.deletion_rules.specs.declared.position.Position.{Position}
 use Rattle.deletion_rules.proofs.FromPositions.{Leads, over_of, unravelled_of}
-use Rattle.unravel.specs.Alive.{IsAlive}
-use Rattle.unravel.specs.Choice.{member_of, plan_of}
-use Rattle.unravel.specs.Growing.{IsGrown, labels_of, nowhere, position_at}
-use Rattle.unravel.specs.Pursuit.{AreAllTargets}
-use Rattle.unravel.specs.Targets.{places}
+use Rattle.unravel.specs.inside.Alive.{IsAlive}
+use Rattle.unravel.specs.inside.Choice.{member_of, plan_of}
+use Rattle.unravel.specs.inside.Growing.{IsGrown, labels_of, nowhere, position_at}
+use Rattle.unravel.specs.inside.Pursuit.{AreAllTargets}
+use Rattle.unravel.specs.inside.Targets.{places}
 use Rattle.deletion_rules.specs.declared.target.Target.{Target}
 use Rattle.unravel.proofs.Plans.{has_targets, is_plan}
 

@@ -2,9 +2,9 @@ ghost use Rattle.std.specs.Prelude.{◌≡◌, ◌<◌, ℕ, None, IfSome, lengt
 ghost use Rattle.tableau_graph.specs.Graph.{graph_of};
 ghost use Rattle.tableau_graph.specs.TableauParts.{edges_at};
 ghost use Rattle.deletion_rules.specs.Deletion.{LivesOr};
-ghost use Rattle.deletion_rules.specs.Picking.{IsBest};
+ghost use Rattle.deletion_rules.specs.inside.Picking.{IsBest};
 ghost use Rattle.deletion_rules.specs.Pruned.{lives_at, rank_at};
-ghost use Rattle.unravel.specs.Choice.{best_from, better, is_lower};
+ghost use Rattle.unravel.specs.inside.Choice.{best_from, better, is_lower};
 
 use crate::tableau::tableau_of;
 use deletion_rules::Ranks;

@@ -1,8 +1,8 @@
 ghost use Rattle.std.specs.Prelude.{◌≡◌, ◌<◌, ◌+◌, ◌∷◌, [], Contains, IfOk, OnOk, length};
 ghost use Rattle.closure_sets.specs.ClosureParts.{count};
 ghost use Rattle.tableau_graph.specs.Graph.{graph_of};
-ghost use Rattle.unravel.specs.Growing.{IsGrown, IsMoved, IsTurn};
-ghost use Rattle.unravel.specs.Pursuit.{AreAllTargets, IsGoodFor, IsPursuit};
+ghost use Rattle.unravel.specs.inside.Growing.{IsGrown, IsMoved, IsTurn};
+ghost use Rattle.unravel.specs.inside.Pursuit.{AreAllTargets, IsGoodFor, IsPursuit};
 
 use crate::next_time::{side_of, successor};
 use crate::pursuit::{Pursuit, pursuit_of};

@@ -3,10 +3,10 @@ ghost use Rattle.pair_structure.specs.declared.side.Side.TheVariants.{A, B};
 ghost use Rattle.closure_sets.specs.ClosureParts.{after, count};
 ghost use Rattle.ctl_form.specs.declared.part.Part.TheVariants.{Until};
 ghost use Rattle.closure_sets.specs.Label.{part_of};
-ghost use Rattle.deletion_rules.specs.Picking.{or_zero};
+ghost use Rattle.deletion_rules.specs.inside.Picking.{or_zero};
 ghost use Rattle.deletion_rules.specs.Pruned.{rank_at};
 ghost use Rattle.tableau_graph.specs.Graph.{graph_of};
-ghost use Rattle.unravel.specs.Choice.{falls_by, has_lower, is_below, is_lower_at, keep_of};
+ghost use Rattle.unravel.specs.inside.Choice.{falls_by, has_lower, is_below, is_lower_at, keep_of};
 ghost use Rattle.deletion_rules.specs.Targets.{IsTarget};
 
 use crate::child::children;

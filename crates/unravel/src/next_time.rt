@@ -1,7 +1,7 @@
 ghost use Rattle.std.specs.Prelude.{◌≡◌, ◌<◌, length, slice_index_or};
 ghost use Rattle.closure_sets.specs.ClosureParts.{count};
 ghost use Rattle.tableau_graph.specs.TableauParts.{edges_at};
-ghost use Rattle.unravel.specs.Growing.{IsSideIn, IsSideOf};
+ghost use Rattle.unravel.specs.inside.Growing.{IsSideIn, IsSideOf};
 
 use crate::keeper::has_member;
 use crate::tableau::tableau_of;

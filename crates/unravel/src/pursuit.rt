@@ -1,10 +1,10 @@
 ghost use Rattle.std.specs.Prelude.{◌≡◌, ◌<◌, length};
 ghost use Rattle.deletion_rules.specs.Pruned.{RankParts};
 ghost use Rattle.deletion_rules.specs.Unravel.{target};
-ghost use Rattle.unravel.specs.Choice.{plan_of};
-ghost use Rattle.unravel.specs.Pursuit.{AreAllTargets, IsGoodFor, IsPursuit, IsPursuitBy, is_pursued};
+ghost use Rattle.unravel.specs.inside.Choice.{plan_of};
+ghost use Rattle.unravel.specs.inside.Pursuit.{AreAllTargets, IsGoodFor, IsPursuit, IsPursuitBy, is_pursued};
 ghost use Rattle.deletion_rules.specs.Targets.{IsTarget};
-ghost use Rattle.unravel.specs.Targets.{pends};
+ghost use Rattle.unravel.specs.inside.Targets.{pends};
 ghost use Rattle.tableau_graph.specs.Graph.{graph_of};
 
 use crate::keeper::kept_or;

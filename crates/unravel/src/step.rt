@@ -2,10 +2,10 @@ ghost use Rattle.std.specs.Prelude.{◌≡◌, ◌<◌, ℕ, ◌&&◌, true, con
 ghost use Rattle.pair_structure.specs.declared.side.Side.{Side};
 ghost use Rattle.tableau_graph.specs.Graph.{graph_of, IsSomeNext};
 ghost use Rattle.deletion_rules.specs.Deletion.{LivesOr};
-ghost use Rattle.deletion_rules.specs.Picking.{IsNextPlace};
+ghost use Rattle.deletion_rules.specs.inside.Picking.{IsNextPlace};
 ghost use Rattle.deletion_rules.specs.Pruned.{lives_at};
-ghost use Rattle.unravel.specs.Pursuit.{AreAllTargets, IsGoodFor, IsPickFor, IsPursuit};
-ghost use Rattle.unravel.specs.Targets.{pends_at, places};
+ghost use Rattle.unravel.specs.inside.Pursuit.{AreAllTargets, IsGoodFor, IsPickFor, IsPursuit};
+ghost use Rattle.unravel.specs.inside.Targets.{pends_at, places};
 
 use crate::child::best_child;
 use crate::pursuit::{Pursuit, is_pursued, pends_at_node, target_at};

@@ -1,5 +1,5 @@
 ghost use Rattle.std.specs.Prelude.{◌≡◌};
-ghost use Rattle.unravel.specs.Alive.{IsAlive};
+ghost use Rattle.unravel.specs.inside.Alive.{IsAlive};
 
 use deletion_rules::Ranks;
 use tableau_graph::Tableau;

@@ -1,7 +1,7 @@
 ghost use Rattle.std.specs.Prelude.{◌≡◌, ◌<◌, ◌≤◌, ◌+◌, All, length, true};
 ghost use Rattle.closure_sets.specs.Row.{set_of};
-ghost use Rattle.deletion_rules.specs.Picking.{IsNextPlace};
-ghost use Rattle.unravel.specs.Targets.{IsFirstPending, IsSmall, pends, pends_at, places};
+ghost use Rattle.deletion_rules.specs.inside.Picking.{IsNextPlace};
+ghost use Rattle.unravel.specs.inside.Targets.{IsFirstPending, IsSmall, pends, pends_at, places};
 
 use closure_sets::Row;
 use deletion_rules::Target;

@@ -4,8 +4,8 @@ ghost use Rattle.pair_structure.specs.Structure.{IsPairStructure, IsRising};
 ghost use Rattle.tableau_graph.specs.Graph.{graph_of};
 ghost use Rattle.deletion_rules.specs.Satisfying.{Satisfies};
 ghost use Rattle.deletion_rules.specs.declared.position.Position.{Position};
-ghost use Rattle.unravel.specs.Growing.{IsGrown, label_of, labels_of};
-ghost use Rattle.unravel.specs.Pursuit.{AreAllTargets, IsGoodFor};
+ghost use Rattle.unravel.specs.inside.Growing.{IsGrown, label_of, labels_of};
+ghost use Rattle.unravel.specs.inside.Pursuit.{AreAllTargets, IsGoodFor};
 
 use crate::child::best_child;
 use crate::growing::{Growing, grown};

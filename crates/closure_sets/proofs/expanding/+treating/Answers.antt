@@ -4,7 +4,7 @@ use Rattle.closure_sets.specs.Expansion.{lowest, is_open, expand, clashes}
 use Rattle.closure_sets.specs.Found.{sets_of}
 use Rattle.closure_sets.specs.Label.{is_plain}
 use Rattle.closure_sets.specs.Row.{set_of}
-use Rattle.closure_sets.specs.Ways.{ways_rows}
+use Rattle.closure_sets.specs.inside.Ways.{ways_rows}
 use Rattle.closure_sets.proofs.Lowest.{lowest_lt}
 use Rattle.closure_sets.proofs.NotedLaws.{expand_noted, ways_noted}
 use Rattle.closure_sets.proofs.expanding.+treating.Goals as goal

@@ -1,6 +1,6 @@
 use Rattle.std.proofs.Common.{subst, ◌≡◌, ◌<◌, arith}
 use Rattle.closure_sets.specs.ClosureParts.{count}
-use Rattle.closure_sets.specs.Marks.{part_value}
+use Rattle.closure_sets.specs.inside.Marks.{part_value}
 use Rattle.closure_sets.proofs.MarkLaws.{values_push}
 use Rattle.closure_sets.proofs.marks.values_of.Goals as goal
 

@@ -1,4 +1,4 @@
-use Rattle.closure_sets.specs.Marks.{AreValues}
+use Rattle.closure_sets.specs.inside.Marks.{AreValues}
 use Rattle.closure_sets.proofs.marks.values_of.Given as goal
 
 abbrev pub invariant-loop-member : goal.invariant-loop-member

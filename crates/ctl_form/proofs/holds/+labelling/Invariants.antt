@@ -1,6 +1,6 @@
 use Rattle.std.proofs.Common.{ℕ, ◌+◌, ◌*◌}
 use Rattle.ctl_form.specs.Form.{form_of}
-use Rattle.ctl_form.specs.Walking.{operators}
+use Rattle.ctl_form.specs.inside.Walking.{operators}
 use Rattle.ctl_form.proofs.holds.«+labelling».Given as goal
 
 abbrev pub decreases-truth_row : goal.decreases-truth_row

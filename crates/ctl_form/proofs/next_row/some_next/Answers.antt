@@ -1,5 +1,5 @@
 use Rattle.std.proofs.Common.{◌≡◌, false, true, length, refl, ap, subst, arith}
-use Rattle.ctl_form.specs.Next.{SomeLeads}
+use Rattle.ctl_form.specs.inside.Next.{SomeLeads}
 use Rattle.ctl_form.specs.Row.{IsRowOf}
 use Rattle.ctl_form.proofs.MovePlaces.{has_move_at}
 use Rattle.ctl_form.proofs.NextRows.{IsRowOf-lead, IsRowOf-pass, IsRowOf-some}

@@ -1,5 +1,5 @@
 use Rattle.std.proofs.Common.{length}
-use Rattle.ctl_form.specs.Next.{SomeLeads}
+use Rattle.ctl_form.specs.inside.Next.{SomeLeads}
 use Rattle.ctl_form.specs.Row.{IsRowOf}
 use Rattle.ctl_form.proofs.next_row.some_next.Given as goal
 

@@ -4,7 +4,7 @@ use Rattle.ctl_form.specs.Members.{forms_of}
 use Rattle.ctl_form.specs.MemberTable.{IsFaultOf}
 use Rattle.ctl_form.specs.Normal.{normal}
 use Rattle.ctl_form.specs.Numbered.{normals}
-use Rattle.ctl_form.specs.Roots.{AreRoots}
+use Rattle.ctl_form.specs.inside.Roots.{AreRoots}
 use Rattle.ctl_form.specs.Walk.{walk_all}
 use Rattle.ctl_form.proofs.MemberWalkLaws.{grown_after}
 use Rattle.ctl_form.proofs.OpeningLaws.{err_as}

@@ -3,7 +3,7 @@ use Rattle.ctl_form.specs.Closure.{IsGrown}
 use Rattle.ctl_form.specs.Form.{form_of}
 use Rattle.ctl_form.specs.Members.{forms_of}
 use Rattle.ctl_form.specs.Numbered.{normals}
-use Rattle.ctl_form.specs.Roots.{AreRoots}
+use Rattle.ctl_form.specs.inside.Roots.{AreRoots}
 use Rattle.ctl_form.proofs.normal.roots_of.Given as goal
 
 abbrev pub invariant-loop-conjunct : goal.invariant-loop-conjunct

@@ -1,4 +1,4 @@
-use Rattle.ctl_form.specs.Predecessors.{AreLinked}
+use Rattle.ctl_form.specs.inside.Predecessors.{AreLinked}
 use Rattle.ctl_form.proofs.predecessors.linked.Given as goal
 
 abbrev pub invariant-loop-place : goal.invariant-loop-place

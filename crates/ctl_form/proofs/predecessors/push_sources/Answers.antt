@@ -1,5 +1,5 @@
 use Rattle.std.proofs.Common.{◌≡◌, ◌-◌, ◌<◌, suc, refl, subst, slice_index, length, arith}
-use Rattle.ctl_form.specs.Predecessors.{EndsAt}
+use Rattle.ctl_form.specs.inside.Predecessors.{EndsAt}
 use Rattle.ctl_form.proofs.PredecessorSteps.{AddsSources-push, EndsAt-self}
 use Rattle.ctl_form.proofs.predecessors.push_sources.Goals as goal
 

@@ -1,5 +1,5 @@
 use Rattle.std.proofs.Common.{◌≤◌, length}
-use Rattle.ctl_form.specs.Predecessors.{AddsSources, EndsAt}
+use Rattle.ctl_form.specs.inside.Predecessors.{AddsSources, EndsAt}
 use Rattle.ctl_form.proofs.predecessors.push_sources.Given as goal
 
 abbrev pub invariant-loop-end : goal.invariant-loop-end

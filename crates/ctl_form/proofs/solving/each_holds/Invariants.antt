@@ -1,6 +1,6 @@
 use Rattle.std.proofs.Common.{All, map, take}
 use Rattle.ctl_form.specs.Form.{form_of}
-use Rattle.ctl_form.specs.Known.{AreKnown}
+use Rattle.ctl_form.specs.inside.Known.{AreKnown}
 use Rattle.ctl_form.specs.Truth.{Holds}
 use Rattle.ctl_form.proofs.solving.each_holds.Given as goal
 

@@ -1,7 +1,7 @@
 use Rattle.std.proofs.Common.{true, false, ◌≡◌, ◌<◌, ◌≤◌, ◌∙◌, ◌+◌, [], arith, subst, ap, length, slice_index}
 use Rattle.std.proofs.lemmas.Grind.{get_or_default_zero}
 use Rattle.ctl_form.specs.Row.{IsAt}
-use Rattle.ctl_form.specs.Spread.{IsSpread, Anyhow, Visits, AreCursors}
+use Rattle.ctl_form.specs.inside.Spread.{IsSpread, Anyhow, Visits, AreCursors}
 use Rattle.ctl_form.proofs.AllOf.{All-last}
 use Rattle.ctl_form.proofs.CursorSteps.{AreCursors-more}
 use Rattle.ctl_form.proofs.MovePlaces.{has_move_at, in_order}

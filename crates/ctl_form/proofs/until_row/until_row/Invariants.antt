@@ -1,6 +1,6 @@
 use Rattle.std.proofs.Common.{◌≤◌, length}
 use Rattle.ctl_form.specs.Row.{IsAt}
-use Rattle.ctl_form.specs.Spread.{AreCursors, IsSpread, Anyhow, SeenBefore}
+use Rattle.ctl_form.specs.inside.Spread.{AreCursors, IsSpread, Anyhow, SeenBefore}
 use Rattle.ctl_form.proofs.SpreadSteps.{left_to_do}
 use Rattle.ctl_form.proofs.until_row.until_row.Given as goal
 

@@ -1,4 +1,4 @@
-use Rattle.ctl_text.specs.View.{group_of, state_of}
+use Rattle.ctl_text.specs.inside.View.{group_of, state_of}
 use Rattle.ctl_text.proofs.Kept.{head_sound, done_sound, role_opens, kind_opens, end_sound, process_sound, edge_sound}
 use Rattle.ctl_text.proofs.added.added.Goals as goal
 

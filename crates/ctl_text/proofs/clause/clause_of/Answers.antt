@@ -1,7 +1,7 @@
 use Rattle.std.proofs.Common.{map}
 use Rattle.ctl_form.specs.Form.{form_of}
 use Rattle.ctl_form.specs.declared.pair_spec.PairSpec.{PairSpec}
-use Rattle.ctl_text.specs.View.{state_of}
+use Rattle.ctl_text.specs.inside.View.{state_of}
 use Rattle.ctl_text.proofs.Clauses.{clause_made, clause_refused}
 use Rattle.ctl_text.proofs.clause.clause_of.Goals as goal
 

@@ -1,6 +1,6 @@
 use Rattle.std.proofs.Common.{◌≡◌, ◌∙◌}
 use Rattle.text_cause.proofs.TextLaws.{one_value, never_both, memory_only, fault_only}
-use Rattle.ctl_text.specs.Made.{value_of}
+use Rattle.ctl_text.specs.inside.Made.{value_of}
 use Rattle.ctl_text.specs.State.{first_state}
 use Rattle.ctl_text.specs.Text.{specifications}
 use Rattle.ctl_text.proofs.TextLaws.{specifications_lawful}

@@ -1,9 +1,9 @@
 use Rattle.std.proofs.Common.{length}
 use Rattle.text_cause.proofs.Reading.{IsReadTo}
-use Rattle.ctl_text.specs.Sound.{IsSoundState}
+use Rattle.ctl_text.specs.inside.Sound.{IsSoundState}
 use Rattle.ctl_text.specs.State.{first_state}
 use Rattle.ctl_text.specs.Text.{specifications}
-use Rattle.ctl_text.specs.View.{state_of}
+use Rattle.ctl_text.specs.inside.View.{state_of}
 use Rattle.ctl_text.proofs.read.read_text.Given as goal
 
 abbrev pub invariant-loop-rest : goal.invariant-loop-rest

@@ -1,5 +1,5 @@
 use Rattle.std.proofs.Common.{refl}
-use Rattle.ctl_text.specs.View.{group_of, state_of, said}
+use Rattle.ctl_text.specs.inside.View.{group_of, state_of, said}
 use Rattle.ctl_text.proofs.ByCause.{lowest_by_cause, free_by_cause}
 use Rattle.ctl_text.proofs.Judged.{misplaced_lowest, blocked_lowest, no_long, may_say, taken_as}
 use Rattle.ctl_text.proofs.take.take_item.Goals as goal

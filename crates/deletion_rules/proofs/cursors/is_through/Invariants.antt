@@ -1,5 +1,5 @@
 use Rattle.std.proofs.Common.{◌-◌, length}
-use Rattle.deletion_rules.specs.Cursors.{HasPassed}
+use Rattle.deletion_rules.specs.inside.Cursors.{HasPassed}
 use Rattle.deletion_rules.proofs.cursors.is_through.Given as goal
 
 abbrev pub invariant-loop-cursor : goal.invariant-loop-cursor

@@ -1,6 +1,6 @@
 use Rattle.std.proofs.Common.{◌≡◌, ◌<◌, ◌≤◌, ◌+◌, true, false, length, refl, subst, sym, ap, ◌∙◌, arith}
 use Rattle.closure_sets.specs.ClosureParts.{count}
-use Rattle.deletion_rules.specs.Edges.{is_next}
+use Rattle.deletion_rules.specs.inside.Edges.{is_next}
 use Rattle.deletion_rules.proofs.EdgeLaws.{AddsArrows, arrow_at, arrow_begin, arrow_below, arrow_end, arrow_passed, arrow_step, place_next, place_same}
 use Rattle.deletion_rules.proofs.edges.add_arrows.Goals as goal
 use Rattle.deletion_rules.proofs.edges.add_arrows.Goals.{then-is_next+in_ok-push, else-is_next}

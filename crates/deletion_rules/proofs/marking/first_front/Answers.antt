@@ -1,6 +1,6 @@
 use Rattle.std.proofs.Common.{◌≡◌, ◌+◌, ℕ, Option, length, subst, sym, ap, ◌∙◌, arith}
 use Rattle.std.specs.Global.{Vec}
-use Rattle.deletion_rules.specs.Spread.{AreFirst}
+use Rattle.deletion_rules.specs.inside.Spread.{AreFirst}
 use Rattle.deletion_rules.proofs.SpreadLaws.{first_no, first_none, first_yes}
 use Rattle.deletion_rules.proofs.marking.first_front.Goals as goal
 use Rattle.deletion_rules.proofs.marking.first_front.Goals.{then-is_met+in_ok-push+in_ok-push-2, else-is_met+in_ok-push-3}

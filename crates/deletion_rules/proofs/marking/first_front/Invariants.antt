@@ -1,4 +1,4 @@
-use Rattle.deletion_rules.specs.Spread.{AreFirst}
+use Rattle.deletion_rules.specs.inside.Spread.{AreFirst}
 use Rattle.deletion_rules.proofs.marking.first_front.Given as goal
 
 abbrev pub invariant-loop-n : goal.invariant-loop-n

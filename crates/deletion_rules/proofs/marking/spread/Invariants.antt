@@ -1,7 +1,7 @@
 use Rattle.std.proofs.Common.{◌≡◌, ◌≤◌, ◌+◌, true, length}
-use Rattle.deletion_rules.specs.Cursors.{AreCursors}
+use Rattle.deletion_rules.specs.inside.Cursors.{AreCursors}
 use Rattle.deletion_rules.specs.Marks.{open_count}
-use Rattle.deletion_rules.specs.Spread.{IsSpread}
+use Rattle.deletion_rules.specs.inside.Spread.{IsSpread}
 use Rattle.deletion_rules.proofs.marking.spread.Given as goal
 
 abbrev pub invariant-loop-alloc : goal.invariant-loop-alloc

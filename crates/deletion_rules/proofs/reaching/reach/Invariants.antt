@@ -1,5 +1,5 @@
 use Rattle.std.proofs.Common.{[]}
-use Rattle.deletion_rules.specs.Spread.{Reaching}
+use Rattle.deletion_rules.specs.inside.Spread.{Reaching}
 use Rattle.deletion_rules.proofs.ReachingLaws.{IsParentBefore}
 use Rattle.deletion_rules.proofs.reaching.reach.Given as goal
 

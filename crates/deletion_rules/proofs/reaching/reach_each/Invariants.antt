@@ -1,5 +1,5 @@
-use Rattle.deletion_rules.specs.Lists.{StandsBefore}
-use Rattle.deletion_rules.specs.Spread.{Reaching}
+use Rattle.deletion_rules.specs.inside.Lists.{StandsBefore}
+use Rattle.deletion_rules.specs.inside.Spread.{Reaching}
 use Rattle.deletion_rules.proofs.reaching.reach_each.Given as goal
 
 abbrev pub invariant-loop-or : goal.invariant-loop-or

@@ -1,5 +1,5 @@
 use Rattle.std.proofs.Common.{[]}
-use Rattle.deletion_rules.specs.Thinning.{Deletes}
+use Rattle.deletion_rules.specs.inside.Thinning.{Deletes}
 use Rattle.deletion_rules.proofs.thinning.delete_all.Given as goal
 
 abbrev pub invariant-loop-or : goal.invariant-loop-or

@@ -1,6 +1,6 @@
 use Rattle.std.proofs.Common.{slice_index_or}
 use Rattle.std.proofs.lemmas.List.{get_or_default}
-use Rattle.deletion_rules.specs.Edges.{arrow_of}
+use Rattle.deletion_rules.specs.inside.Edges.{arrow_of}
 use Rattle.deletion_rules.specs.declared.edges.Arrow.{Arrow}
 use Rattle.deletion_rules.proofs.ThinningLaws.{deletes_then, losing_still}
 use Rattle.deletion_rules.proofs.thinning.delete_each.Goals as goal

@@ -1,4 +1,4 @@
-use Rattle.deletion_rules.specs.Thinning.{Deletes}
+use Rattle.deletion_rules.specs.inside.Thinning.{Deletes}
 use Rattle.deletion_rules.proofs.thinning.delete_each.Given as goal
 
 abbrev pub invariant-loop-arrow : goal.invariant-loop-arrow

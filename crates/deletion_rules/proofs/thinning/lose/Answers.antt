@@ -1,7 +1,7 @@
 use Rattle.std.proofs.Common.{◌≡◌, ◌<◌, ℕ, List, Bool, true, false, Contains, length, subst, refl, ap, sym, ◌∙◌, arith, length-set}
 use Rattle.std.proofs.lemmas.List.{get_or_default}
 use Rattle.tableau_graph.specs.TableauParts.{edges_at}
-use Rattle.deletion_rules.specs.Cursors.{flag_of, EachIs, HasPassed}
+use Rattle.deletion_rules.specs.inside.Cursors.{flag_of, EachIs, HasPassed}
 use Rattle.deletion_rules.proofs.Standing.{cursors_set}
 use Rattle.deletion_rules.proofs.ThinningLaws.{fewer_lost, lost_of, lost_push}
 use Rattle.deletion_rules.proofs.Within.{child_within}

@@ -1,4 +1,4 @@
-use Rattle.deletion_rules.specs.Thinning.{Loses}
+use Rattle.deletion_rules.specs.inside.Thinning.{Loses}
 use Rattle.deletion_rules.proofs.thinning.lose_each.Given as goal
 
 abbrev pub invariant-loop-or : goal.invariant-loop-or

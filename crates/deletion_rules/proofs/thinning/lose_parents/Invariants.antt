@@ -1,5 +1,5 @@
 use Rattle.std.proofs.Common.{[]}
-use Rattle.deletion_rules.specs.Thinning.{Loses}
+use Rattle.deletion_rules.specs.inside.Thinning.{Loses}
 use Rattle.deletion_rules.proofs.thinning.lose_parents.Given as goal
 
 abbrev pub invariant-loop-node : goal.invariant-loop-node

@@ -1,5 +1,5 @@
 use Rattle.std.proofs.Common.{◌+◌, not, count_by, length}
-use Rattle.deletion_rules.specs.Thinning.{AreLost, IsThinned, IsThinning}
+use Rattle.deletion_rules.specs.inside.Thinning.{AreLost, IsThinned, IsThinning}
 use Rattle.deletion_rules.proofs.thinning.thin.Given as goal
 
 abbrev pub invariant-loop-alloc : goal.invariant-loop-alloc

@@ -1,6 +1,6 @@
 use Rattle.std.proofs.Common.{◌≡◌, ◌<◌, List, length, ◌∙◌, slice_index_or}
 use Rattle.std.proofs.lemmas.List.{get_or_default}
-use Rattle.deletion_rules.specs.Edges.{arrow_of}
+use Rattle.deletion_rules.specs.inside.Edges.{arrow_of}
 use Rattle.deletion_rules.specs.declared.edges.Arrow.{Arrow}
 use Rattle.deletion_rules.proofs.VisitLaws.{arrows_begin, arrows_end, arrows_step}
 use Rattle.deletion_rules.proofs.visiting.visit_arrows.Goals as goal

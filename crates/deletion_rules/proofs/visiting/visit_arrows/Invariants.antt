@@ -1,7 +1,7 @@
 use Rattle.std.proofs.Common.{◌≡◌, true, length}
-use Rattle.deletion_rules.specs.Cursors.{AreCursors}
-use Rattle.deletion_rules.specs.Lists.{StandsBefore}
-use Rattle.deletion_rules.specs.Spread.{Visits}
+use Rattle.deletion_rules.specs.inside.Cursors.{AreCursors}
+use Rattle.deletion_rules.specs.inside.Lists.{StandsBefore}
+use Rattle.deletion_rules.specs.inside.Spread.{Visits}
 use Rattle.deletion_rules.proofs.visiting.visit_arrows.Given as goal
 
 abbrev pub invariant-loop-arrow : goal.invariant-loop-arrow

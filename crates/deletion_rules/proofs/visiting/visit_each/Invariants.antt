@@ -1,6 +1,6 @@
 use Rattle.std.proofs.Common.{◌≡◌, true, length}
-use Rattle.deletion_rules.specs.Cursors.{AreCursors}
-use Rattle.deletion_rules.specs.Spread.{Visits}
+use Rattle.deletion_rules.specs.inside.Cursors.{AreCursors}
+use Rattle.deletion_rules.specs.inside.Spread.{Visits}
 use Rattle.deletion_rules.proofs.VisitLaws.{IsArrowBefore}
 use Rattle.deletion_rules.proofs.visiting.visit_each.Given as goal
 

@@ -2,7 +2,7 @@ use Rattle.std.proofs.Common.{ℕ, ◌∙◌, ap, length, subst, sym}
 use Rattle.strict_text.specs.View.{line_of}
 use Rattle.firing_journal.specs.declared.item.Item.{Item}
 use Rattle.firing_journal.specs.Said.{Says, entry_line}
-use Rattle.firing_journal.specs.View.{said, wish_of_numbers}
+use Rattle.firing_journal.specs.inside.View.{said, wish_of_numbers}
 use Rattle.firing_journal.proofs.Judged.{entry_taken, misplaced}
 use Rattle.firing_journal.proofs.judge.judge_item.Goals as goal
 

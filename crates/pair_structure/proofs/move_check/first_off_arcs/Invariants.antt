@@ -1,5 +1,5 @@
 use Rattle.std.proofs.Common.{◌<◌, ℕ}
-use Rattle.pair_structure.specs.StructureCheck.{FollowsArc}
+use Rattle.pair_structure.specs.inside.StructureCheck.{FollowsArc}
 use Rattle.pair_structure.proofs.move_check.first_off_arcs.Given as goal
 
 abbrev pub invariant-loop-n : goal.invariant-loop-n

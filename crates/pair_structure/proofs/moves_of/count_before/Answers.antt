@@ -1,7 +1,7 @@
 use Rattle.std.proofs.Common.{ltb, ltb-true, ltb-false, rules}
 use Rattle.std.proofs.lemmas.List.Sorted.{IsPartitionPoint-from_clause, IsPartitionedBy-ltb}
 use Rattle.pair_structure.specs.declared.side.Move.{Move}
-use Rattle.pair_structure.specs.Turn.{turn}
+use Rattle.pair_structure.specs.inside.Turn.{turn}
 use Rattle.pair_structure.proofs.Rising.{turns_rise}
 use Rattle.pair_structure.proofs.moves_of.count_before.Goals as goal
 

@@ -1,7 +1,7 @@
 use Rattle.std.proofs.Common.{leb, leb-true, leb-false, rules}
 use Rattle.std.proofs.lemmas.List.Sorted.{IsPartitionPoint-from_clause, IsPartitionedBy-leb}
 use Rattle.pair_structure.specs.declared.side.Move.{Move}
-use Rattle.pair_structure.specs.Turn.{turn}
+use Rattle.pair_structure.specs.inside.Turn.{turn}
 use Rattle.pair_structure.proofs.Rising.{turns_rise}
 use Rattle.pair_structure.proofs.moves_of.count_by.Goals as goal
 

@@ -1,5 +1,5 @@
 use Rattle.std.proofs.Common.{◌<◌, ℕ}
-use Rattle.pair_structure.specs.StructureCheck.{IsLabelBelow}
+use Rattle.pair_structure.specs.inside.StructureCheck.{IsLabelBelow}
 use Rattle.pair_structure.proofs.structure_check.first_off_label.Given as goal
 
 abbrev pub invariant-loop-s : goal.invariant-loop-s

@@ -1,5 +1,5 @@
 use Rattle.std.proofs.Common.{take}
-use Rattle.skeleton_extract.specs.Gathered.{AreGathered}
+use Rattle.skeleton_extract.specs.inside.Gathered.{AreGathered}
 use Rattle.skeleton_extract.proofs.extraction.gathered.Given as goal
 
 abbrev pub invariant-loop-step : goal.invariant-loop-step

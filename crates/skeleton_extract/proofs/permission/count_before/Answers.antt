@@ -1,6 +1,6 @@
 use Rattle.std.proofs.Common.{rules}
 use Rattle.std.proofs.lemmas.List.Sorted.{IsPartitionPoint-from_clause}
-use Rattle.skeleton_extract.specs.Place.{comes_before}
+use Rattle.skeleton_extract.specs.inside.Place.{comes_before}
 use Rattle.skeleton_extract.proofs.Places.{parted_before}
 use Rattle.skeleton_extract.proofs.permission.count_before.Goals as goal
 

@@ -1,6 +1,6 @@
 use Rattle.std.proofs.Common.{ℕ, List, ap, Some}
 use Rattle.skeleton_tool.specs.Command.{asked_files}
-use Rattle.skeleton_tool.specs.View.{command_value}
+use Rattle.skeleton_tool.specs.inside.View.{command_value}
 use Rattle.skeleton_tool.proofs.Taken.{synth_asks, both_asked, all_asked}
 use Rattle.skeleton_tool.proofs.answer.answer_command.Goals as goal
 

@@ -1,5 +1,5 @@
 use Rattle.std.proofs.Common.{take}
-use Rattle.skeleton_tool.specs.Showing.{ShowsKinds}
+use Rattle.skeleton_tool.specs.inside.Showing.{ShowsKinds}
 use Rattle.skeleton_tool.proofs.showing.write_kinds.Given as goal
 
 abbrev pub invariant-loop-number : goal.invariant-loop-number

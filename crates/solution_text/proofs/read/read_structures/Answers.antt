@@ -2,7 +2,7 @@ use Rattle.text_cause.proofs.Reading.{read_line}
 use Rattle.strict_text.specs.View.{line_of}
 use Rattle.solution_text.specs.State.{first_state}
 use Rattle.solution_text.specs.Text.{solutions}
-use Rattle.solution_text.specs.View.{state_of}
+use Rattle.solution_text.specs.inside.View.{state_of}
 use Rattle.solution_text.proofs.read.read_structures.Goals as goal
 
 pub loop-rest-preserved : goal.loop-rest-preserved

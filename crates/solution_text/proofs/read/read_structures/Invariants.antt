@@ -3,7 +3,7 @@ use Rattle.text_cause.proofs.Reading.{IsReadTo}
 use Rattle.solution_text.specs.Answers.{HasRoles}
 use Rattle.solution_text.specs.State.{first_state}
 use Rattle.solution_text.specs.Text.{solutions}
-use Rattle.solution_text.specs.View.{state_of}
+use Rattle.solution_text.specs.inside.View.{state_of}
 use Rattle.solution_text.proofs.read.read_structures.Given as goal
 
 abbrev pub invariant-loop-rest : goal.invariant-loop-rest

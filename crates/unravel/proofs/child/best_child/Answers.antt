@@ -1,8 +1,8 @@
 use Rattle.std.proofs.Common.{ℕ, ◌≡◌, None, Some, Option, subst, ap, ◌∙◌}
 use Rattle.tableau_graph.specs.TableauParts.{edges_at}
-use Rattle.deletion_rules.specs.Picking.{IsBest}
+use Rattle.deletion_rules.specs.inside.Picking.{IsBest}
 use Rattle.deletion_rules.specs.Pruned.{lives_at, rank_at}
-use Rattle.unravel.specs.Choice.{best_from}
+use Rattle.unravel.specs.inside.Choice.{best_from}
 use Rattle.unravel.proofs.BestLaws.{best_is}
 use Rattle.unravel.proofs.child.best_child.Goals as goal
 

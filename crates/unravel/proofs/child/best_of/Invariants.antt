@@ -1,6 +1,6 @@
 use Rattle.std.proofs.Common.{◌≡◌, ◌<◌, None, IfSome, length, drop}
 use Rattle.deletion_rules.specs.Pruned.{lives_at, rank_at}
-use Rattle.unravel.specs.Choice.{best_from}
+use Rattle.unravel.specs.inside.Choice.{best_from}
 use Rattle.unravel.proofs.child.best_of.Given as goal
 
 abbrev pub invariant-loop-node : goal.invariant-loop-node

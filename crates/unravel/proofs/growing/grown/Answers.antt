@@ -1,6 +1,6 @@
 use Rattle.std.proofs.Common.{◌≡◌, List, length, arith, ap, subst}
 use Rattle.deletion_rules.specs.declared.position.Position.{Position}
-use Rattle.unravel.specs.Growing.{IsGrown}
+use Rattle.unravel.specs.inside.Growing.{IsGrown}
 use Rattle.unravel.proofs.growing.grown.Goals as goal
 
 pub returns : goal.returns

@@ -1,5 +1,5 @@
 use Rattle.std.proofs.Common.{◌≤◌, ◌-◌, ◌^◌, length}
-use Rattle.unravel.specs.Growing.{IsGrown}
+use Rattle.unravel.specs.inside.Growing.{IsGrown}
 use Rattle.unravel.proofs.growing.grown.Given as goal
 
 abbrev pub invariant-loop-state : goal.invariant-loop-state

@@ -1,7 +1,7 @@
 use Rattle.std.proofs.Common.{ℕ, ◌≡◌, ◌<◌, false, length, slice_index, take}
 use Rattle.std.specs.List.{list_any}
 use Rattle.tableau_graph.specs.TableauParts.{edges_at}
-use Rattle.unravel.specs.Choice.{is_lower_at}
+use Rattle.unravel.specs.inside.Choice.{is_lower_at}
 use Rattle.unravel.proofs.keeper.has_lower.Given as goal
 
 abbrev pub invariant-loop-child : goal.invariant-loop-child

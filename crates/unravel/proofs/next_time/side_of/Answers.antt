@@ -1,6 +1,6 @@
 use Rattle.std.proofs.Common.{ap, subst, sym, ◌∙◌}
 use Rattle.closure_sets.specs.Label.{part_of}
-use Rattle.unravel.specs.Growing.{IsSideIn}
+use Rattle.unravel.specs.inside.Growing.{IsSideIn}
 use Rattle.unravel.proofs.Expanding.{side_is}
 use Rattle.unravel.proofs.next_time.side_of.Goals as goal
 

@@ -1,5 +1,5 @@
 use Rattle.std.proofs.Common.{subst, sym}
-use Rattle.unravel.specs.Pursuit.{IsPursuitBy}
+use Rattle.unravel.specs.inside.Pursuit.{IsPursuitBy}
 use Rattle.unravel.proofs.Pursuits.{goal_is}
 use Rattle.unravel.proofs.pursuit.pursuit_of.Goals as goal
 

@@ -1,10 +1,10 @@
 use Rattle.std.proofs.Common.{◌&&◌, cond, ap, subst, sym, ◌∙◌}
 use Rattle.tableau_graph.specs.TableauParts.{edges_at}
-use Rattle.deletion_rules.specs.Picking.{IsBest}
+use Rattle.deletion_rules.specs.inside.Picking.{IsBest}
 use Rattle.deletion_rules.specs.Pruned.{lives_at, rank_at}
 use Rattle.deletion_rules.specs.Unravel.{target}
-use Rattle.unravel.specs.Choice.{plan_of}
-use Rattle.unravel.specs.Pursuit.{IsPickFor, is_pursued}
+use Rattle.unravel.specs.inside.Choice.{plan_of}
+use Rattle.unravel.specs.inside.Pursuit.{IsPickFor, is_pursued}
 use Rattle.unravel.proofs.Stepping.{step_is}
 use Rattle.unravel.proofs.step.step.Goals as goal
 

@@ -1,5 +1,5 @@
 use Rattle.std.proofs.Common.{◌≡◌, take}
-use Rattle.unravel.specs.Growing.{labels_of}
+use Rattle.unravel.specs.inside.Growing.{labels_of}
 use Rattle.unravel.proofs.unravelling.labels_of.Given as goal
 
 abbrev pub invariant-loop-position : goal.invariant-loop-position

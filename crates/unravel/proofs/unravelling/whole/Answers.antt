@@ -2,7 +2,7 @@ use Rattle.std.proofs.Common.{◌≡◌, ◌<◌, All, length, ap, subst, sym, �
 use Rattle.std.proofs.lemmas.Result.{IfOk-weaker}
 use Rattle.deletion_rules.specs.Satisfying.{Satisfies}
 use Rattle.deletion_rules.specs.declared.position.Position.{Position}
-use Rattle.unravel.specs.Growing.{labels_of}
+use Rattle.unravel.specs.inside.Growing.{labels_of}
 use Rattle.unravel.proofs.Whole.{nodes_within, over_same, same_parts, whole_over, whole_satisfies}
 use Rattle.unravel.proofs.unravelling.whole.Goals as goal
 

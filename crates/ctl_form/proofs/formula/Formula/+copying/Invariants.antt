@@ -1,6 +1,6 @@
 use Rattle.std.proofs.Common.{ℕ, ◌+◌, ◌*◌}
 use Rattle.ctl_form.specs.Form.{form_of}
-use Rattle.ctl_form.specs.Walking.{operators}
+use Rattle.ctl_form.specs.inside.Walking.{operators}
 use Rattle.ctl_form.proofs.formula.Formula.«+copying».Given as goal
 
 abbrev pub decreases-copy : goal.decreases-copy

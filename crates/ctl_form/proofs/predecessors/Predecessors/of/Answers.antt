@@ -1,5 +1,5 @@
 use Rattle.std.proofs.Common.{◌≡◌, ap, subst, length, arith}
-use Rattle.ctl_form.specs.Predecessors.{AddsSources, ArePartsOf}
+use Rattle.ctl_form.specs.inside.Predecessors.{AddsSources, ArePartsOf}
 use Rattle.ctl_form.proofs.MovePlaces.{has_move_at}
 use Rattle.ctl_form.proofs.PredecessorSteps.{ArePartsOf-push}
 use Rattle.ctl_form.proofs.predecessors.Predecessors.of.Goals as goal

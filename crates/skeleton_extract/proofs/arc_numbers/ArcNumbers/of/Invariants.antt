@@ -1,4 +1,4 @@
-use Rattle.skeleton_extract.specs.ArcNumbers.{IsNumberingBelow}
+use Rattle.skeleton_extract.specs.inside.ArcNumbers.{IsNumberingBelow}
 use Rattle.skeleton_extract.proofs.arc_numbers.ArcNumbers.of.Given as goal
 
 abbrev pub invariant-loop-n : goal.invariant-loop-n

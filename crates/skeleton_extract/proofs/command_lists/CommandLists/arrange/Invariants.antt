@@ -1,4 +1,4 @@
-use Rattle.skeleton_extract.specs.Gathered.{AreArranged}
+use Rattle.skeleton_extract.specs.inside.Gathered.{AreArranged}
 use Rattle.skeleton_extract.proofs.command_lists.CommandLists.arrange.Given as goal
 
 abbrev pub invariant-loop-arc : goal.invariant-loop-arc

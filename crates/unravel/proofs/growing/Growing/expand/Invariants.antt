@@ -1,4 +1,4 @@
-use Rattle.unravel.specs.Growing.{IsTurn}
+use Rattle.unravel.specs.inside.Growing.{IsTurn}
 use Rattle.unravel.proofs.growing.Growing.expand.Given as goal
 
 abbrev pub invariant-loop-member : goal.invariant-loop-member

@@ -10,8 +10,8 @@ use Rattle.tableau_graph.specs.TableauParts.{TableauParts, somes_below}
 use Rattle.deletion_rules.specs.Pruned.{RankParts}
 use Rattle.deletion_rules.specs.Unravel.{IsStep}
 use Rattle.deletion_rules.specs.declared.position.Position.{Position}
-use Rattle.unravel.specs.Choice.{plan_of}
-use Rattle.unravel.specs.Pursuit.{IsGoodFor}
+use Rattle.unravel.specs.inside.Choice.{plan_of}
+use Rattle.unravel.specs.inside.Pursuit.{IsGoodFor}
 use Rattle.unravel.specs.declared.growing.Growing.{Growing}
 use Rattle.unravel.specs.declared.growing.Turn.{Turn}
 use Rattle.deletion_rules.specs.declared.target.Target.{Target}

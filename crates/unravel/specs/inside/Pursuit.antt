@@ -2,13 +2,13 @@
 use Rattle.std.specs.Prelude.{ℕ, ◌≡◌, ◌==◌, Bool, true, false, List}
 use Rattle.closure_sets.specs.ClosureParts.{count}
 use Rattle.tableau_graph.specs.Graph.{graph_of}
-use Rattle.deletion_rules.specs.Picking.{IsGood}
+use Rattle.deletion_rules.specs.inside.Picking.{IsGood}
 use Rattle.deletion_rules.specs.Pruned.{RankParts, lives_at}
 use Rattle.deletion_rules.specs.Unravel.{IsPending, IsStep, target}
 use Rattle.deletion_rules.specs.declared.position.Position.{Position}
-use Rattle.unravel.specs.Choice.{keep_of, plan_of}
+use Rattle.unravel.specs.inside.Choice.{keep_of, plan_of}
 use Rattle.deletion_rules.specs.Targets.{AreTargets}
-use Rattle.unravel.specs.Targets.{places}
+use Rattle.unravel.specs.inside.Targets.{places}
 use Rattle.unravel.specs.declared.pursuit.Pursuit.{Pursuit}
 use Rattle.unravel.specs.declared.pursuit.Pursuit.TheVariants.{Each, Along, Idle}
 use Rattle.deletion_rules.specs.declared.target.Target.{Target}

@@ -5,10 +5,10 @@ use Rattle.closure_sets.specs.ClosureParts.{ClosureParts, after}
 use Rattle.closure_sets.specs.Full.{Has}
 use Rattle.tableau_graph.specs.Graph.{graph_of, IsSomeNext}
 use Rattle.tableau_graph.specs.TableauParts.{TableauParts}
-use Rattle.deletion_rules.specs.Cursors.{flag_of}
+use Rattle.deletion_rules.specs.inside.Cursors.{flag_of}
 use Rattle.deletion_rules.specs.Deletion.{HasLower}
-use Rattle.deletion_rules.specs.Edges.{IsArrow}
-use Rattle.deletion_rules.specs.Lists.{list_at}
+use Rattle.deletion_rules.specs.inside.Edges.{IsArrow}
+use Rattle.deletion_rules.specs.inside.Lists.{list_at}
 use Rattle.deletion_rules.specs.Marks.{lives_of, mark_at, open_count, rank_of, AreSound}
 use Rattle.deletion_rules.specs.declared.edges.Arrow.{Arrow}
 use Rattle.deletion_rules.specs.declared.target.Target.{Target}

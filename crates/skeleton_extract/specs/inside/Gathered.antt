@@ -8,7 +8,7 @@ use Rattle.pair_structure.specs.Role.{HasArc}
 use Rattle.pair_structure.specs.Parts.{arc_at}
 use Rattle.pair_structure.specs.Structure.{Structure, label_at}
 use Rattle.skeleton_extract.specs.declared.command.Command.{Command}
-use Rattle.skeleton_extract.specs.ArcNumbers.{number_at}
+use Rattle.skeleton_extract.specs.inside.ArcNumbers.{number_at}
 use Rattle.pair_structure.specs.Lists.{list_at}
 use Rattle.skeleton_extract.specs.Commands.{IsRising}
 use Rattle.pair_structure.specs.Sides.{opposite, local_of}

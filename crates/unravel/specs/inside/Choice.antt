@@ -6,7 +6,7 @@ use Rattle.pair_structure.specs.declared.side.Side.TheVariants.{A, B}
 use Rattle.closure_sets.specs.ClosureParts.{after}
 use Rattle.tableau_graph.specs.Graph.{graph_of}
 use Rattle.tableau_graph.specs.TableauParts.{edges_at}
-use Rattle.deletion_rules.specs.Picking.{or_zero}
+use Rattle.deletion_rules.specs.inside.Picking.{or_zero}
 use Rattle.deletion_rules.specs.Pruned.{RankParts, lives_at, rank_at}
 use Rattle.deletion_rules.specs.Unravel.{Plan}
 use Rattle.deletion_rules.specs.declared.position.Position.{Position}

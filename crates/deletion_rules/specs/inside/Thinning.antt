@@ -2,9 +2,9 @@
 use Rattle.std.specs.Prelude.{ℕ, ◌≡◌, ◌<◌, ◌+◌, Bool, true, false, not, List, Contains, count_by, length}
 use Rattle.tableau_graph.specs.Graph.{graph_of}
 use Rattle.tableau_graph.specs.TableauParts.{TableauParts}
-use Rattle.deletion_rules.specs.Cursors.{AreCursors}
+use Rattle.deletion_rules.specs.inside.Cursors.{AreCursors}
 use Rattle.deletion_rules.specs.Deletion.{LivesOr}
-use Rattle.deletion_rules.specs.Edges.{IsArrow}
+use Rattle.deletion_rules.specs.inside.Edges.{IsArrow}
 use Rattle.deletion_rules.specs.Marks.{lives_of}
 use Rattle.deletion_rules.specs.Met.{MetLive}
 use Rattle.deletion_rules.specs.declared.edges.Arrow.{Arrow}

@@ -1,0 +1,9 @@
+-- The machine's own words: no public contract reaches them.
+pub mod Cursors
+pub mod Edges
+pub mod Lists
+pub mod Picking
+pub mod PositionOrder
+pub mod Spread
+pub mod Stable
+pub mod Thinning

@@ -1,0 +1,6 @@
+-- The machine's own words: no public contract reaches them.
+pub mod Alive
+pub mod Choice
+pub mod Growing
+pub mod Pursuit
+pub mod Targets
