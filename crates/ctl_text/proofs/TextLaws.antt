@@ -1,5 +1,5 @@
 -- The grammar of specifications is lawful.
-use Rattle.std.proofs.Common.{ℕ, ◌≡◌, ◌<◌, ◌≤◌, inl, inr, List, [], ◌∷◌, refl, sym, ap, ◌∙◌, subst, arith}
+use Rattle.std.proofs.Common.{ℕ, ◌≡◌, ◌<◌, ◌≤◌, ◌⊎◌, inl, inr, List, [], ◌∷◌, refl, sym, ap, ◌∙◌, subst, arith}
 use Rattle.std.proofs.lemmas.Bool.{cases_order}
 use Rattle.pair_structure.specs.declared.side.LocalArc.{LocalArc}
 use Rattle.interconnection.specs.declared.parts.Edge.{Edge}
@@ -165,11 +165,12 @@ module _ (s : State) (words : List (List ℕ)) where
       one_each_above BadHead (IsNoHead s words) OfLong (from_long 3 (omega arith))
       (one_each_above Long (IsLongLine words) OfLine (from_line 4 (omega arith)) (one_each_above BadLine (SaysNothing s words) OfItem from_item one_item))
 
+abbrev OfRead : State → List ℕ → TextCause → Type 0
+OfRead s line cause = (ArePassed (words_of line) → ⊥) × WordsStand s (words_of line) cause
+
 refused_once : (s : State) (line : List ℕ) (c d : TextCause) → IsLowest (Stands s line) c → IsLowest (Stands s line) d → c ≡ d
-refused_once s line c d a b = lowest_once (Stands s line) c d (one_each_above NotText (IsText line → ⊥) Read (λ cause h. from_words s (words_of line) cause h.1) (λ c d same p q. one_words s (words_of line) c d same p.1 q.1)) a b
-  where
-    abbrev Read : TextCause → Type 0
-    Read cause = (ArePassed (words_of line) → ⊥) × WordsStand s (words_of line) cause
+refused_once s line c d a b =
+    lowest_once (Stands s line) c d (one_each_above NotText (IsText line → ⊥) (OfRead s line) (λ cause h. from_words s (words_of line) cause h.1) (λ c d same p q. one_words s (words_of line) c d same p.1 q.1)) a b
 
 gives_free : (g : Group) (cause : TextCause) → g ≡ after_done → EndStands g cause → ⊥
 gives_free g cause is h = let end = subst (λ g. EndStands g cause) is h in end
