@@ -4,7 +4,6 @@ ghost use Rattle.ctl_text.specs.LineCause.{LineBlocks, LocalBlocks, StartBlocks,
 ghost use Rattle.ctl_text.specs.Sound.{IsSound, HasItsRoles, IsSoundState};
 ghost use Rattle.ctl_text.specs.View.{group_of, state_of, said};
 
-use text_cause::TextCause;
 use crate::closure_count::is_closure_over;
 use crate::graph_cause::{edge_cause, kind_cause, process_cause};
 use crate::item::Item;
@@ -12,6 +11,7 @@ use crate::place::{Place, Reader};
 use crate::role_cause::{arc_cause, local_cause, role_cause, role_end_cause, start_cause};
 use pair_structure::{Memory, Role};
 use std::alloc::Global;
+use text_cause::TextCause;
 
 /// What stands against a line that may stand there.
 pub(crate) fn blocked(

@@ -10,13 +10,13 @@ ghost use Rattle.ctl_text.specs.Cause.{WordsStand};
 ghost use Rattle.ctl_text.specs.Sound.{IsSoundState};
 ghost use Rattle.ctl_text.specs.View.{group_of, state_of};
 
-use text_cause::{LineFault, TextCause};
 use crate::grown::with_form;
 use crate::place::{Place, Reader};
 use ctl_form::Formula;
 use formula_text::{FormulaFault, is_long, read_formula, tokens_of};
 use pair_structure::{Memory, Name, Role};
 use std::alloc::{AllocError, Global};
+use text_cause::{LineFault, TextCause};
 
 /// What stands below a line that requires a clause, of these words behind `require`.
 pub(crate) fn take_clause(

@@ -4,13 +4,13 @@ ghost use Rattle.text_cause.specs.Cause.{IsLowest, IsFree};
 ghost use Rattle.ctl_text.specs.Cause.{IsCrowded, IsFirstCrowded, AreOfKind};
 ghost use Rattle.ctl_text.specs.LineCause.{NameStands, KindStands, ProcessStands, JoinStands, EdgeStands};
 
-use text_cause::TextCause;
 use crate::edges::Edges;
 use crate::names::{has_kind, has_process, has_role, kind_number, process_number};
 use crate::processes::Processes;
 use ctl_form::PairSpec;
 use interconnection::Process;
 use pair_structure::Role;
+use text_cause::TextCause;
 
 const MAX_KINDS: usize = 16;
 

@@ -12,7 +12,6 @@ ghost use Rattle.text_cause.specs.Answers.{IsFaultAt};
 ghost use Rattle.ctl_text.specs.Answers.{IsRefusal};
 ghost use Rattle.ctl_text.specs.Made.{value_of, HasEnds};
 
-use text_cause::{LineFault, TextCause, TextFault};
 use crate::edges::Edges;
 use crate::line::cut_line;
 use crate::place::{Place, Reader};
@@ -23,6 +22,7 @@ use ctl_form::PairSpec;
 use interconnection::{Edge, Network, NetworkFault, Process};
 use pair_structure::{Memory, Role};
 use std::alloc::Global;
+use text_cause::{LineFault, TextCause, TextFault};
 
 /// What a text makes: the network of its processes, and its kinds of pairs.
 #[derive(Drop)]

@@ -4,9 +4,9 @@ ghost use Rattle.ctl_text.specs.Value.{role_names, number_in};
 ghost use Rattle.text_cause.specs.Cause.{IsLowest, IsFree};
 ghost use Rattle.ctl_text.specs.LineCause.{NameStands, UseStands, ArcStands, RoleEndStands};
 
-use text_cause::TextCause;
 use crate::names::{has_local, has_role, local_number};
 use pair_structure::{LocalArc, Name, Role};
+use text_cause::TextCause;
 
 const MAX_ROLES: usize = 16;
 

@@ -10,12 +10,12 @@ ghost use Rattle.ctl_text.specs.View.{group_of, state_of, said};
 
 use crate::added::added;
 use crate::blocked::blocked;
-use text_cause::{LineFault, TextCause};
 use crate::clause::take_clause;
 use crate::item::{Item, said_by};
 use crate::line::{are_passed, is_text, words_of};
 use crate::place::{Place, Reader, may_stand};
 use std::alloc::Global;
+use text_cause::{LineFault, TextCause};
 
 /// What stands below the line. Linear in the line and in what it names.
 pub(crate) fn take_line(alloc: Global, reader: Reader, line: &[u8]) -> Result<Reader, LineFault>
