@@ -1,5 +1,5 @@
 -- How a line is judged: before the head, and below entries.
-use Rattle.std.proofs.Common.{ℕ, ◌≡◌, ◌≢◌, ◌∷◌, ◌++◌, List, [], length, refl, subst, true}
+use Rattle.std.proofs.Common.{ℕ, ◌≡◌, ◌∷◌, ◌++◌, List, [], length, refl, subst, true}
 use Rattle.std.specs.Prelude.{Some, None, codes}
 use Rattle.text_cause.specs.declared.cause.TextCause.TheVariants.{NotText, BadHead, BadLine, UnknownName}
 use Rattle.text_cause.specs.Cause.{IsLowest}

@@ -1,5 +1,5 @@
 -- The grammar of journals is lawful, and is read line by line as far as `done`.
-use Rattle.std.proofs.Common.{ℕ, ◌≡◌, ◌<◌, ◌+◌, arith, length, inl, inr, List, [], ◌∷◌, sym, ap, ◌∙◌, subst, refl}
+use Rattle.std.proofs.Common.{ℕ, ◌≡◌, ◌<◌, ◌+◌, arith, length, List, [], ◌∷◌, sym, ap, ◌∙◌, subst, refl}
 use Rattle.std.specs.Prelude.{Option, None, Some}
 use Rattle.std.proofs.lemmas.List.Elements.{All-push}
 use Rattle.text_cause.specs.declared.cause.TextCause.{TextCause}

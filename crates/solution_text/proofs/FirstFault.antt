@@ -1,5 +1,5 @@
 -- States and moves have one first fault at most.
-use Rattle.std.proofs.Common.{ℕ, ◌≡◌, ◌<◌, ◌≤◌, ◌==◌, inl, inr, List, refl, sym, ap, ◌∙◌, arith}
+use Rattle.std.proofs.Common.{ℕ, ◌≡◌, ◌==◌, inl, inr, List, refl, sym, ap, ◌∙◌, arith}
 use Rattle.std.specs.Prelude.{if◌then◌else◌}
 use Rattle.pair_structure.specs.declared.side.Move.{Move}
 use Rattle.pair_structure.specs.declared.structure_fault.StructureFault.{StructureFault}

@@ -1,15 +1,11 @@
 -- What stands against a line, from what stands against what it says.
-use Rattle.std.proofs.Common.{ℕ, ◌≡◌, ◌≤◌, inl, inr, List, [], ◌∷◌, refl, sym, ap, ◌∙◌, arith, subst}
+use Rattle.std.proofs.Common.{◌≡◌, List, refl, ap, ◌∙◌, subst}
 use Rattle.pair_structure.specs.Role.{RoleParts}
-use Rattle.pair_structure.specs.Structure.{Structure}
-use Rattle.pair_structure.specs.declared.side.Move.{Move}
-use Rattle.pair_structure.specs.StructureFault.{IsFirstStructureFault}
 use Rattle.ctl_form.specs.declared.pair_spec.PairSpec.{PairSpec}
-use Rattle.text_cause.specs.declared.cause.TextCause.{TextCause}
-use Rattle.text_cause.specs.declared.cause.TextCause.TheVariants.{NotText, BadHead, BadLine, UnknownName, NotAPair}
+use Rattle.text_cause.specs.declared.cause.TextCause.TheVariants.{NotText, BadHead, BadLine}
 use Rattle.text_cause.specs.declared.line_fault.LineFault.{LineFault}
 use Rattle.text_cause.specs.Answers.{IsBadBy}
-use Rattle.text_cause.specs.Cause.{IsLowest, IsFree, Row, cause_no}
+use Rattle.text_cause.specs.Cause.{IsLowest, IsFree}
 use Rattle.text_cause.proofs.Rows.{not_text_lowest, bad_head_lowest, bad_line_lowest, blocked_bad, line_free, said_unblocked}
 use Rattle.strict_text.specs.Lines.{Line, IsStrict}
 use Rattle.strict_text.specs.Words.{words_of}

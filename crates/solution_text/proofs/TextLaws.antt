@@ -1,20 +1,19 @@
 -- The grammar of solutions is lawful.
-use Rattle.std.proofs.Common.{ℕ, ◌≡◌, ◌≤◌, inl, inr, List, [], ◌∷◌, sym, ap, ◌∙◌, subst, arith}
+use Rattle.std.proofs.Common.{ℕ, ◌≡◌, inl, inr, List, [], ◌∷◌, sym, ap, ◌∙◌, subst, arith}
 use Rattle.pair_structure.specs.declared.side.Move.{Move}
 use Rattle.pair_structure.specs.Role.{RoleParts}
-use Rattle.pair_structure.specs.Structure.{Structure}
 use Rattle.ctl_form.specs.declared.pair_spec.PairSpec.{PairSpec}
 use Rattle.text_cause.specs.declared.cause.TextCause.{TextCause}
 use Rattle.text_cause.specs.declared.cause.TextCause.TheVariants.{UnknownName, NotAPair}
 use Rattle.text_cause.specs.Cause.{IsLowest, cause_no}
 use Rattle.text_cause.specs.inside.Laws.{IsLawful}
-use Rattle.text_cause.proofs.Lowest.{From, OneEach, from_row, from_or, one_each_row}
+use Rattle.text_cause.proofs.Lowest.{From, OneEach}
 use Rattle.text_cause.proofs.Rows.{line_once}
 use Rattle.strict_text.specs.Lines.{Line, IsStrict}
 use Rattle.solution_text.specs.Item.{Said, head_line, kind_line, state_line, move_line, end_line, done_line}
 use Rattle.solution_text.specs.State.{State, Group, before_head, among_kinds, in_kind, after_done, after}
 use Rattle.solution_text.specs.Cause.{Blocks, EndBlocks, KindBlocks, LabelBlocks, LacksHead, MaySay, PairBlocks, StateBlocks, Stands, Takes}
-use Rattle.solution_text.specs.Text.{EndStands, Gives, solutions}
+use Rattle.solution_text.specs.Text.{EndStands, solutions}
 use Rattle.solution_text.proofs.FirstFault.{first_fault_once}
 use Rattle.solution_text.proofs.ItemLaws.{says_once}
 use Rattle.solution_text.proofs.Judged.{says_one}
