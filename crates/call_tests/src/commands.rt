@@ -11,7 +11,8 @@ use std::test::Fail;
 const KIND: &str = "kind k phil phil/require AG !(a.C & b.C)/end/process p phil/";
 
 /// A solution of it: of two that wait, side a goes.
-const SOLUTION: &str = "solution 1/kind k/state N N/state T N/state N T/state C N/state T T/state N C/state C T/state T C/move 0 a 1/move 0 b 2/move 1 a 3/move 1 b 4/move 2 a 4/move 2 b 5/move 3 a 0/move 3 b 6/move 4 a 6/move 5 a 7/move 5 b 0/move 6 a 2/move 7 b 1/end/done/";
+const SOLUTION: &str =
+    "solution 1/kind k/state N N/state T N/state N T/state C N/state T T/state N C/state C T/state T C/move 0 a 1/move 0 b 2/move 1 a 3/move 1 b 4/move 2 a 4/move 2 b 5/move 3 a 0/move 3 b 6/move 4 a 6/move 5 a 7/move 5 b 0/move 6 a 2/move 7 b 1/end/done/";
 
 const JOURNAL: &str = "journal 1/entry 0 0 0 0 0/done/";
 
@@ -36,7 +37,11 @@ const CALLS: &str = "9 9 prove spec sol = 0 solves/
 fn files(alloc: Global) -> Result<Vec<(String, Vec<u8>)>, Fail> {
     let spec = format!(in alloc; "pairs 1/{PHIL}{KIND}done/")?;
     let mut files = Vec::new(alloc);
-    for (name, text) in [("spec", spec.as_str()), ("sol", SOLUTION), ("journal", JOURNAL)] {
+    for (name, text) in [
+        ("spec", spec.as_str()),
+        ("sol", SOLUTION),
+        ("journal", JOURNAL),
+    ] {
         let text = to_lines(alloc, text)?;
         let bytes = Vec::from_slice(alloc, text.as_str().as_bytes())?;
         files.push((String::from_str(alloc, name)?, bytes))?;
@@ -72,8 +77,16 @@ fn answers_each_command(rt: HostRuntime) -> Result<(), Fail> {
 fn answers_with_long_texts(rt: HostRuntime) -> Result<(), Fail> {
     let alloc = rt.alloc();
     let synthesized = told(alloc, "9 9 synth spec")?;
-    assert!(rt; synthesized.as_str().starts_with("0 solution 1/kind k/state N N/"));
+    assert!(rt;
+        synthesized
+            .as_str()
+            .starts_with("0 solution 1/kind k/state N N/")
+    );
     let shown = told(alloc, "9 9 skel spec sol")?;
-    assert!(rt; shown.as_str().starts_with("0 skeleton 1/kind k/side a/arc N T/command N 0 0/"));
+    assert!(rt;
+        shown
+            .as_str()
+            .starts_with("0 skeleton 1/kind k/side a/arc N T/command N 0 0/")
+    );
     Ok(())
 }

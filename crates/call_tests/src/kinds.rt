@@ -4,7 +4,8 @@ use samples::{PHIL, conjuncts, pair};
 use std::test::Fail;
 
 /// The formulas of a kind of philosophers with the clause `AG !(a.C & b.C)`.
-const WHOLE: &str = "Always { all: true, f: Not(And(At { side: A, local: 2 }, At { side: B, local: 2 })) }
+const WHOLE: &str =
+    "Always { all: true, f: Not(And(At { side: A, local: 2 }, At { side: B, local: 2 })) }
 Always { all: true, f: Implies(At { side: A, local: 0 }, Next { all: false, side: Some(A), f: At { side: A, local: 1 } }) }
 Always { all: true, f: Implies(At { side: A, local: 2 }, Next { all: false, side: Some(A), f: At { side: A, local: 0 } }) }
 Always { all: true, f: Implies(At { side: B, local: 0 }, Next { all: false, side: Some(B), f: At { side: B, local: 1 } }) }
@@ -30,7 +31,8 @@ fn copies_clauses(rt: HostRuntime) -> Result<(), Fail> {
     let kind = spec.kinds().first().ok_or("a kind")?;
     let copy = kind.clauses.copy(alloc)?;
     let text = format!(in alloc; "{} {} {:?}", copy.len(), copy.is_empty(), copy.as_slice())?;
-    let wanted = "2 false [At { side: A, local: 0 }, Next { all: false, side: None, f: At { side: B, local: 1 } }]";
+    let wanted =
+        "2 false [At { side: A, local: 0 }, Next { all: false, side: None, f: At { side: B, local: 1 } }]";
     assert_eq!(rt; text.as_str(), wanted);
     Ok(())
 }

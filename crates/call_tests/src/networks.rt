@@ -32,7 +32,8 @@ const FAULTS: &str = "0 | | |  = a network
 
 /// Rings of three philosophers, the second with its edges out of order, a pair beside two who are alone, and a process with 32 neighbours.
 /// Of each process the neighbours, as number, edge and own side, and then its plan.
-const NEIGHBOURS: &str = "1 | 0-0 | 3*0 | 0-1:0 1-2:0 2-0:0 = 1/0/A 2/2/B > 0 1 2, 0/0/B 2/1/A > 0 1 2, 0/2/A 1/1/B > 0 1 2, 
+const NEIGHBOURS: &str =
+    "1 | 0-0 | 3*0 | 0-1:0 1-2:0 2-0:0 = 1/0/A 2/2/B > 0 1 2, 0/0/B 2/1/A > 0 1 2, 0/2/A 1/1/B > 0 1 2, 
 1 | 0-0 | 3*0 | 2-0:0 1-2:0 0-1:0 = 1/2/A 2/0/B > 0 1 2, 0/2/B 2/1/A > 0 1 2, 0/0/A 1/1/B > 0 1 2, 
 1 | 0-0 | 4*0 | 3-0:0 = 3/0/B > 0 3, > 1, > 2, 0/0/A > 0 3, ";
 

@@ -11,7 +11,8 @@ use std::alloc::Global;
 use std::test::Fail;
 
 /// The text that stands before the skeletons of a kind, and that of the skeletons of FIRST.
-const FIRST_TEXT: &str = "skeleton 1/kind mutex/side a/arc N T/command N 0 0/command T 0 1/command C 0 0/arc T C/command N 0 0/command T 0 0/arc C N/command N 0 0/command T 0 0/side b/arc N T/command N 0 0/command T 0 0/command C 0 0/arc T C/command N 0 0/command T 1 0/arc C N/command N 0 0/command T 0 0/end/";
+const FIRST_TEXT: &str =
+    "skeleton 1/kind mutex/side a/arc N T/command N 0 0/command T 0 1/command C 0 0/arc T C/command N 0 0/command T 0 0/arc C N/command N 0 0/command T 0 0/side b/arc N T/command N 0 0/command T 0 0/command C 0 0/arc T C/command N 0 0/command T 1 0/arc C N/command N 0 0/command T 0 0/end/";
 
 fn skeleton(alloc: Global, role: &Role, spelled: &str) -> Result<Skeleton, Fail>
     ensures { IfOk result (λ s. HasLists role.now role.now s) }

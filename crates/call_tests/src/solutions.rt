@@ -11,7 +11,8 @@ const KINDS: &str =
     "kind turns lamp lamp/require EF (a.R & b.R)/end/kind still lamp lamp/require AG AF a.L/end/";
 
 /// Two lamps that are switched on in turn, and off in turn.
-const TURNS: &str = "state L L/state L R/state R R/state R L/move 0 b 1/move 1 a 2/move 2 b 3/move 3 a 0/end/";
+const TURNS: &str =
+    "state L L/state L R/state R R/state R L/move 0 b 1/move 1 a 2/move 2 b 3/move 3 a 0/end/";
 
 /// The lamp of side a stays on.
 const STUCK: &str = "state L L/state R L/state R R/move 0 a 1/move 1 b 2/move 2 b 1/end/";

@@ -1,12 +1,10 @@
 //! The canonical texts of specifications and of formulas, which are read again as they were written.
 
 use crate::table::expect;
-use ctl_text::Spec;
+use ctl_text::{Spec, write_spec};
 use samples::{BOUND, pair, spec, to_slashes};
 use std::alloc::Global;
 use std::test::Fail;
-
-use ctl_text::write_spec;
 
 /// Lines of specifications, and what is written between the head and `done`. A `/` is a line feed.
 const SPECS: &str = " = 

@@ -51,7 +51,12 @@ fn ordinals(alloc: Global, m: &PairStructure) -> Result<String, Fail> {
     Ok(text)
 }
 
-fn expect_roles(rt: &impl Abort, alloc: Global, m: &PairStructure, role: &Role) -> Result<(), Fail> {
+fn expect_roles(
+    rt: &impl Abort,
+    alloc: Global,
+    m: &PairStructure,
+    role: &Role,
+) -> Result<(), Fail> {
     let lamp = samples::role(alloc, LAMP)?;
     assert!(rt; m.is_over(role, role) && !m.is_over(role, &lamp));
     Ok(())
@@ -78,6 +83,9 @@ fn tells_states_moves_and_roles(rt: HostRuntime) -> Result<(), Fail> {
 fn arranges_by_from_then_side_then_to(rt: HostRuntime) -> Result<(), Fail> {
     let mut unordered = moves(rt.alloc(), "1b0 0b1 0a2 1b0 0a1")?;
     arrange(&mut unordered);
-    assert_eq!(rt; unordered.as_slice(), moves(rt.alloc(), "0a1 0a2 0b1 1b0")?.as_slice());
+    assert_eq!(rt;
+        unordered.as_slice(),
+        moves(rt.alloc(), "0a1 0a2 0b1 1b0")?.as_slice()
+    );
     Ok(())
 }

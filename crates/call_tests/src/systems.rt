@@ -9,11 +9,13 @@ use std::alloc::Global;
 use std::test::Fail;
 
 /// Processes, edges, and wishes as process, arc and pick; then the answers, and the whole state after them.
-const PHILOSOPHERS: &str = "3*0 | 0-1:0 1-2:0 0-2:0 | 0/0/0 0/1/0 1/0/0 1/1/0 = Moved, Moved, Moved, Blocked { neighbour: 0 }, [2, 1, 0] [0, 0, 0]
+const PHILOSOPHERS: &str =
+    "3*0 | 0-1:0 1-2:0 0-2:0 | 0/0/0 0/1/0 1/0/0 1/1/0 = Moved, Moved, Moved, Blocked { neighbour: 0 }, [2, 1, 0] [0, 0, 0]
 3*0 | 1-2:0 0-2:0 0-1:0 | 1/0/0 0/0/0 2/0/0 2/1/0 = Moved, Moved, Moved, Blocked { neighbour: 0 }, [1, 1, 1] [0, 0, 1]
 0 |  | 0/0/0 0/1/0 0/2/0 = Moved, Moved, Moved, [0] []";
 
-const LAMPS: &str = "2*0 | 0-1:0 | 0/1/0 1/0/0 1/1/18446744073709551615 0/0/0 0/0/0 = Away { local: 0 }, Moved, Blocked { neighbour: 0 }, Moved, Away { local: 1 }, [1, 1] [0]";
+const LAMPS: &str =
+    "2*0 | 0-1:0 | 0/1/0 1/0/0 1/1/18446744073709551615 0/0/0 0/0/0 = Away { local: 0 }, Moved, Blocked { neighbour: 0 }, Moved, Away { local: 1 }, [1, 1] [0]";
 
 /// Of four permitted commands the picked one is taken.
 const PICKS: &str = "2*0 | 0-1:0 | 0/0/2 = Moved, [1, 0] [2]

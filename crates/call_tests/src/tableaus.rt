@@ -57,7 +57,10 @@ fn builds_a_small_graph(rt: HostRuntime) -> Result<(), Fail> {
     let t = tableau(alloc, LAMP, "EXa true; AXa b.L")?;
     assert_eq!(rt; children_text(alloc, &t)?.as_str(), CHILDREN);
     assert_eq!(rt; successors_text(alloc, &t)?.as_str(), SUCCESSORS);
-    assert_eq!(rt; figures(alloc, &t)?.as_str(), "6 2 2 Some(A) [true, false, true]");
+    assert_eq!(rt;
+        figures(alloc, &t)?.as_str(),
+        "6 2 2 Some(A) [true, false, true]"
+    );
     Ok(())
 }
 
@@ -106,7 +109,10 @@ fn numbers_positions(rt: HostRuntime) -> Result<(), Fail> {
     push_some(&mut positions, Some(Position { node: 7, place: 1 }))?;
     let mut table = NodeTable::new(alloc);
     assert_eq!(rt; table.number(Position { node: 7, place: 1 })?, 0);
-    assert_eq!(rt; table.number_each(alloc, &positions)?.as_slice(), [1, 0].as_slice());
+    assert_eq!(rt;
+        table.number_each(alloc, &positions)?.as_slice(),
+        [1, 0].as_slice()
+    );
     assert_eq!(rt; table.nodes().len(), 2);
     assert_eq!(rt; table.into_nodes().len(), 2);
     Ok(())

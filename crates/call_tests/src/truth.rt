@@ -3,7 +3,10 @@
 
 use crate::table::expect;
 use ctl_form::{holds_at, solves};
-use samples::{BOUND, FIRST, LAMP, LAST, PHIL, PRIOR, TURN, UNBARRED, first_role, formula, pair, role, structure};
+use samples::{
+    BOUND, FIRST, LAMP, LAST, PHIL, PRIOR, TURN, UNBARRED, first_role, formula, pair, role,
+    structure,
+};
 use std::alloc::Global;
 use std::test::Fail;
 

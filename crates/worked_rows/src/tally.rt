@@ -70,13 +70,7 @@ impl Tally {
         Ok(())
     }
 
-    fn print<R: Print>(
-        &mut self,
-        rt: &R,
-        number: u64,
-        line: &str,
-        difference: &str,
-    ) -> Result<()> {
+    fn print<R: Print>(&mut self, rt: &R, number: u64, line: &str, difference: &str) -> Result<()> {
         self.differing = self.differing.saturating_add(1);
         println!(rt; "{number}: {line}\n{difference}")?;
         Ok(())

@@ -21,7 +21,11 @@ pub fn words_of<R: Files>(
         }
         let (inline, names) = part.split_once('}').context("a { without }")?;
         let file = format!(in alloc; "inline_{place}")?;
-        fs::write(rt, file.as_str(), bytes_of(alloc, pieces, inline)?.as_slice())?;
+        fs::write(
+            rt,
+            file.as_str(),
+            bytes_of(alloc, pieces, inline)?.as_slice(),
+        )?;
         words.push(file)?;
         push_names(alloc, names, &mut words)?;
     }
