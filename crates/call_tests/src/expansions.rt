@@ -1,6 +1,6 @@
 //! The rows of small seeds, worked out by hand from the definition of the expansion.
 
-use crate::table::expect;
+use crate::table::{agree, expect};
 use closure_sets::{Closure, Row, full_rows};
 use ctl_form::Part;
 use pair_structure::Side;
@@ -12,10 +12,10 @@ use std::test::Fail;
 /// 9 EXb 7, 10 b.T, 11 EXb 10, 12 A[4 U 11], 13 AXa 12, 14 AXb 12. A row has the local states, the seed and its rows.
 const UNTILS: &str = "00: = 2 /3 /
 00:0 = 0 2 /0 3 /
-00:1 = 
+00:1 =
 00:2 = 2 /
 00:2 3 = 2 3 /
-00:5 = 
+00:5 =
 10:5 = 2 5 /3 5 /
 00:7 = 2 6 7 /3 6 7 /2 4 7 8 /3 4 7 8 /2 4 7 9 /3 4 7 9 /
 10:7 = 2 6 7 /3 6 7 /
@@ -27,7 +27,7 @@ const UNTILS: &str = "00: = 2 /3 /
 /// `E[a.N U b.T]` and `!(a.N & !EXa true)`. Members: 4 a.N, 5 b.T, 6 E[4 U 5], 7 EXa 6, 8 EXb 6, 9 !a.N, 10 either 9 or 2.
 const EASY: &str = "01:2 6 = 2 5 6 /
 00:2 6 = 2 4 6 7 /2 4 6 8 /
-10:2 6 = 
+10:2 6 =
 10:3 10 = 3 9 10 /
 00:3 10 = 2 3 10 /
 00:2 10 = 2 10 /";
@@ -80,43 +80,49 @@ fn expands_seeds(rt: HostRuntime) -> Result<(), Fail> {
     expect(&rt, rt.alloc(), EASY, rows_of_easy)
 }
 
-fn seed_text(alloc: Global, c: &Closure) -> Result<String, Fail> {
-    let mut text = String::from_str(alloc, "00:")?;
+/// The rows of the roots at the starts.
+fn first_rows(alloc: Global, c: &Closure) -> Result<usize, Fail> {
+    let mut seed = Row::empty();
     for root in c.roots() {
-        text.push_str(&format!(in alloc; "{root} ")?)?;
+        if *root < 512 {
+            seed.add(*root);
+        }
     }
-    Ok(text)
+    Ok(full_rows(alloc, c, 0, 0, &seed)?.len())
 }
 
-/// `AG !a.T` has no rows where a waits; what fair philosophers ask has rows at their start.
+/// What fair philosophers ask has rows at their starts; `AG !a.T` has none where a waits.
+fn pairs_told(alloc: Global) -> Result<String, Fail> {
+    let fair = closure(alloc, PHIL, FAIR)?;
+    let quiet = closure(alloc, PHIL, "AG !a.T")?;
+    let none = rows_of(alloc, &quiet, "10:5")?;
+    Ok(format!(in alloc; "{} {} {none}", fair.count(), first_rows(alloc, &fair)? > 0)?)
+}
+
 #[test]
 fn expands_pairs(rt: HostRuntime) -> Result<(), Fail> {
-    let alloc = rt.alloc();
-    let quiet = closure(alloc, PHIL, "AG !a.T")?;
-    assert_eq!(rt; rows_of(alloc, &quiet, "10:5")?.as_str(), "");
-    let fair = closure(alloc, PHIL, FAIR)?;
-    let rows = rows_of(alloc, &fair, seed_text(alloc, &fair)?.as_str())?;
-    assert!(rt; fair.count() == 54 && !rows.is_empty());
-    Ok(())
+    agree(&rt, pairs_told(rt.alloc()), "54 true ")
 }
 
-/// The next-times of the member, by side.
+/// The member with its next-times, by side.
 fn afters(alloc: Global, c: &Closure, member: u32) -> Result<String, Fail> {
     if member >= c.count() {
         return Err(Fail::from("no member"));
     }
-    let (a, b) = (c.after(Side::A, member), c.after(Side::B, member));
-    Ok(format!(in alloc; "{:?} {a} {b}", c.part(member))?)
+    let next = [c.after(Side::A, member), c.after(Side::B, member)];
+    Ok(format!(in alloc; "{:?} {next:?}", c.part(member))?)
+}
+
+fn closure_told(alloc: Global) -> Result<String, Fail> {
+    let c = closure(alloc, PHIL, "AG !a.T")?.copy(alloc)?;
+    let until = afters(alloc, &c, 5)?;
+    let moves = [c.some_move(Side::A), c.some_move(Side::B)];
+    Ok(format!(in alloc; "{until} {moves:?} {:?} {:?}", c.roots(), c.find(Part::No))?)
 }
 
 #[test]
 fn copies_a_closure(rt: HostRuntime) -> Result<(), Fail> {
-    let alloc = rt.alloc();
-    let c = closure(alloc, PHIL, "AG !a.T")?.copy(alloc)?;
-    let wanted = "Until { all: true, weak: true, f: 4, g: 1 } 6 7";
-    assert_eq!(rt; afters(alloc, &c, 5)?.as_str(), wanted);
-    assert_eq!(rt; c.roots(), [5, 12, 19, 26, 33].as_slice());
-    assert_eq!(rt; c.find(Part::No), Some(1));
-    assert_eq!(rt; (c.some_move(Side::A), c.some_move(Side::B)), (2, 3));
-    Ok(())
+    let wanted =
+        "Until { all: true, weak: true, f: 4, g: 1 } [6, 7] [2, 3] [5, 12, 19, 26, 33] Some(1)";
+    agree(&rt, closure_told(rt.alloc()), wanted)
 }

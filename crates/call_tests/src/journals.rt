@@ -2,9 +2,10 @@
 
 ghost use Rattle.firing_journal.specs.Journal.{JournalFits};
 
+use crate::table::agree;
 use conjunctive_compose::{System, Wish};
 use firing_journal::{Journal, Replay, project, read_journal, replay, write_journal};
-use samples::{LAMP, TURN, system, to_slashes};
+use samples::{LAMP, TURN, system, to_lines, to_slashes};
 use std::alloc::Global;
 use std::test::Fail;
 
@@ -12,15 +13,24 @@ fn lamps(alloc: Global) -> Result<System, Fail> {
     system(alloc, LAMP, TURN, "2*0", "0-1:0")
 }
 
+const READ: &str = "journal 1/entry 0 7 1 0 18446744073709551615/entry 1 10 0 0 20/done/";
+
+fn written(alloc: Global, journal: &Journal) -> Result<String, Fail> {
+    let mut bytes = Vec::new(alloc);
+    write_journal(alloc, journal, &mut bytes)?;
+    to_slashes(alloc, &bytes)
+}
+
+fn read_told(alloc: Global) -> Result<String, Fail> {
+    let system = lamps(alloc)?;
+    let text = to_lines(alloc, READ)?;
+    let journal = read_journal(alloc, &system, text.as_str().as_bytes())?;
+    written(alloc, &journal)
+}
+
 #[test]
 fn writes_what_it_reads(rt: HostRuntime) -> Result<(), Fail> {
-    let alloc = rt.alloc();
-    let text = b"journal 1\nentry 0 7 1 0 18446744073709551615\nentry 1 10 0 0 20\ndone\n";
-    let journal = read_journal(alloc, &lamps(alloc)?, text)?;
-    let mut written = Vec::new(alloc);
-    write_journal(alloc, &journal, &mut written)?;
-    assert_eq!(rt; written.as_slice(), text.as_slice());
-    Ok(())
+    agree(&rt, read_told(rt.alloc()), READ)
 }
 
 /// The second process moves first, and then the other.
@@ -33,16 +43,16 @@ fn made(alloc: Global) -> Result<Journal, Fail> {
     Ok(journal)
 }
 
+fn pushed_told(alloc: Global) -> Result<String, Fail> {
+    let journal = made(alloc)?;
+    let text = written(alloc, &journal)?;
+    Ok(format!(in alloc; "{} {text}", journal.entries().len())?)
+}
+
 #[test]
 fn writes_what_is_pushed(rt: HostRuntime) -> Result<(), Fail> {
-    let alloc = rt.alloc();
-    let journal = made(alloc)?;
-    let mut written = Vec::new(alloc);
-    write_journal(alloc, &journal, &mut written)?;
-    let wanted = "journal 1/entry 0 3 1 0 5/entry 1 3 0 0 5/done/";
-    assert_eq!(rt; to_slashes(alloc, &written)?.as_str(), wanted);
-    assert_eq!(rt; journal.entries().len(), 2);
-    Ok(())
+    let wanted = "2 journal 1/entry 0 3 1 0 5/entry 1 3 0 0 5/done/";
+    agree(&rt, pushed_told(rt.alloc()), wanted)
 }
 
 /// What the run of the journal leaves, and what it does on edge 0.
@@ -61,15 +71,17 @@ fn projected(alloc: Global, system: &System, journal: &Journal) -> Result<String
     }
 }
 
-#[test]
-fn projects_on_an_edge(rt: HostRuntime) -> Result<(), Fail> {
-    let alloc = rt.alloc();
+fn projected_told(alloc: Global) -> Result<String, Fail> {
     let system = lamps(alloc)?;
     let journal = made(alloc)?;
     if !journal.fits(&system) {
         return Err(Fail::from("a journal that does not fit"));
     }
+    projected(alloc, &system, &journal)
+}
+
+#[test]
+fn projects_on_an_edge(rt: HostRuntime) -> Result<(), Fail> {
     let wanted = "[1, 1] [PairMove { side: B, state: 1 }, PairMove { side: A, state: 2 }]";
-    assert_eq!(rt; projected(alloc, &system, &journal)?.as_str(), wanted);
-    Ok(())
+    agree(&rt, projected_told(rt.alloc()), wanted)
 }

@@ -1,6 +1,7 @@
 //! The members of closures and their numbers. The lines were worked out by hand from the rule of the walk.
 
-use ctl_form::{Formula, Normal, NormalFault, Part};
+use crate::table::agree;
+use ctl_form::{Formula, Normal};
 use pair_structure::Side;
 use samples::{FAIR, PHIL, normal};
 use std::alloc::Global;
@@ -8,95 +9,64 @@ use std::test::Fail;
 
 /// The roots, and then the members for philosophers of which a never waits: `AG !a.T` and the formulas of the free arcs.
 const QUIET: &str = "[5, 12, 19, 26, 33]
-true
-false
-EXa 0
-EXb 0
-!a1
-AW 4 1
-AXa 5
-AXb 5
-!a0
-a1
-EXa 9
-| 8 10
-AW 11 1
-AXa 12
-AXb 12
-!a2
-a0
-EXa 16
-| 15 17
-AW 18 1
-AXa 19
-AXb 19
-!b0
-b1
-EXb 23
-| 22 24
-AW 25 1
-AXa 26
-AXb 26
-!b2
-b0
-EXb 30
-| 29 31
-AW 32 1
-AXa 33
-AXb 33
+Yes
+No
+Next { all: false, side: A, f: 0 }
+Next { all: false, side: B, f: 0 }
+Lit { side: A, local: 1, is: false }
+Until { all: true, weak: true, f: 4, g: 1 }
+Next { all: true, side: A, f: 5 }
+Next { all: true, side: B, f: 5 }
+Lit { side: A, local: 0, is: false }
+Lit { side: A, local: 1, is: true }
+Next { all: false, side: A, f: 9 }
+Either { f: 8, g: 10 }
+Until { all: true, weak: true, f: 11, g: 1 }
+Next { all: true, side: A, f: 12 }
+Next { all: true, side: B, f: 12 }
+Lit { side: A, local: 2, is: false }
+Lit { side: A, local: 0, is: true }
+Next { all: false, side: A, f: 16 }
+Either { f: 15, g: 17 }
+Until { all: true, weak: true, f: 18, g: 1 }
+Next { all: true, side: A, f: 19 }
+Next { all: true, side: B, f: 19 }
+Lit { side: B, local: 0, is: false }
+Lit { side: B, local: 1, is: true }
+Next { all: false, side: B, f: 23 }
+Either { f: 22, g: 24 }
+Until { all: true, weak: true, f: 25, g: 1 }
+Next { all: true, side: A, f: 26 }
+Next { all: true, side: B, f: 26 }
+Lit { side: B, local: 2, is: false }
+Lit { side: B, local: 0, is: true }
+Next { all: false, side: B, f: 30 }
+Either { f: 29, g: 31 }
+Until { all: true, weak: true, f: 32, g: 1 }
+Next { all: true, side: A, f: 33 }
+Next { all: true, side: B, f: 33 }
 ";
-
-fn side_of(side: Side) -> char {
-    match side {
-        Side::A => 'a',
-        Side::B => 'b',
-    }
-}
-
-fn path_of(all: bool) -> char {
-    if all { 'A' } else { 'E' }
-}
-
-fn word_of(alloc: Global, part: Part) -> Result<String, Fail> {
-    Ok(match part {
-        Part::Yes => format!(in alloc; "true")?,
-        Part::No => format!(in alloc; "false")?,
-        Part::Lit { side, local, is } => {
-            let sign = if is { "" } else { "!" };
-            format!(in alloc; "{sign}{}{local}", side_of(side))?
-        }
-        Part::Both { f, g } => format!(in alloc; "& {f} {g}")?,
-        Part::Either { f, g } => format!(in alloc; "| {f} {g}")?,
-        Part::Next { all, side, f } => {
-            format!(in alloc; "{}X{} {f}", path_of(all), side_of(side))?
-        }
-        Part::Until { all, weak, f, g } => {
-            let sign = if weak { 'W' } else { 'U' };
-            format!(in alloc; "{}{sign} {f} {g}", path_of(all))?
-        }
-    })
-}
 
 /// The roots and the members, each on a line; a member that is not found where it stands is marked.
 fn members_of(alloc: Global, normal: &Normal) -> Result<String, Fail> {
     let mut text = format!(in alloc; "{:?}\n", normal.roots())?;
     for member in 0..normal.count() {
         let part = normal.part(member);
-        text.push_str(word_of(alloc, part)?.as_str())?;
-        let is_found = normal.find(part) == Some(member);
-        text.push_str(if is_found { "\n" } else { " not found\n" })?;
+        if normal.find(part) != Some(member) {
+            text.push_str("not found: ")?;
+        }
+        text.push_str(&format!(in alloc; "{part:?}\n")?)?;
     }
     Ok(text)
 }
 
+fn quiet_told(alloc: Global) -> Result<String, Fail> {
+    members_of(alloc, &normal(alloc, PHIL, "AG !a.T")?)
+}
+
 #[test]
 fn numbers_members(rt: HostRuntime) -> Result<(), Fail> {
-    let alloc = rt.alloc();
-    let quiet = normal(alloc, PHIL, "AG !a.T")?;
-    assert_eq!(rt; members_of(alloc, &quiet)?.as_str(), QUIET);
-    assert_eq!(rt; quiet.find(Part::Both { f: 0, g: 1 }), None);
-    assert_eq!(rt; normal(alloc, PHIL, FAIR)?.count(), 54);
-    Ok(())
+    agree(&rt, quiet_told(rt.alloc()), QUIET)
 }
 
 /// `EXa` so many times, and the atom.
@@ -123,11 +93,26 @@ fn chains(alloc: Global, last: usize) -> Result<Vec<Formula>, Fail> {
     Ok(made)
 }
 
+fn count_told(alloc: Global, conjuncts: &[Formula]) -> Result<String, Fail> {
+    match Normal::of(alloc, conjuncts) {
+        Ok(normal) => Ok(format!(in alloc; "{}", normal.count())?),
+        Err(fault) => Ok(format!(in alloc; "{fault}")?),
+    }
+}
+
+/// The count of members of fair philosophers, and of chains up to the limit and one past it.
+fn counts_told(alloc: Global) -> Result<String, Fail> {
+    let fair = normal(alloc, PHIL, FAIR)?.count();
+    let most = count_told(alloc, &chains(alloc, 3)?)?;
+    let over = count_told(alloc, &chains(alloc, 4)?)?;
+    Ok(format!(in alloc; "{fair}, {most}, {over}")?)
+}
+
 #[test]
-fn takes_512_members(rt: HostRuntime) -> Result<(), Fail> {
-    let alloc = rt.alloc();
-    assert_eq!(rt; Normal::of(alloc, &chains(alloc, 3)?)?.count(), 512);
-    let over = Normal::of(alloc, &chains(alloc, 4)?);
-    assert!(rt; matches!(&over, Err(NormalFault::Over)));
-    Ok(())
+fn counts_members(rt: HostRuntime) -> Result<(), Fail> {
+    agree(
+        &rt,
+        counts_told(rt.alloc()),
+        "54, 512, the closure has more than 512 members",
+    )
 }

@@ -1,6 +1,8 @@
 //! Networks, spelled as rows: so many roles; the roles of each kind as `0-1`; the processes; the edges. The parts stand between bars.
 
-use crate::table::expect;
+ghost use Rattle.std.specs.Prelude.{◌<◌, length};
+
+use crate::table::{agree, expect};
 use interconnection::{Network, NetworkFault};
 use pair_structure::Role;
 use samples::{LAMP, edges, processes, role};
@@ -33,9 +35,9 @@ const FAULTS: &str = "0 | | |  = a network
 /// Rings of three philosophers, the second with its edges out of order, a pair beside two who are alone, and a process with 32 neighbours.
 /// Of each process the neighbours, as number, edge and own side, and then its plan.
 const NEIGHBOURS: &str =
-    "1 | 0-0 | 3*0 | 0-1:0 1-2:0 2-0:0 = 1/0/A 2/2/B > 0 1 2, 0/0/B 2/1/A > 0 1 2, 0/2/A 1/1/B > 0 1 2, 
-1 | 0-0 | 3*0 | 2-0:0 1-2:0 0-1:0 = 1/2/A 2/0/B > 0 1 2, 0/2/B 2/1/A > 0 1 2, 0/0/A 1/1/B > 0 1 2, 
-1 | 0-0 | 4*0 | 3-0:0 = 3/0/B > 0 3, > 1, > 2, 0/0/A > 0 3, ";
+    "1 | 0-0 | 3*0 | 0-1:0 1-2:0 2-0:0 = 1/0/A 2/2/B [0, 1, 2]; 0/0/B 2/1/A [0, 1, 2]; 0/2/A 1/1/B [0, 1, 2];
+1 | 0-0 | 3*0 | 2-0:0 1-2:0 0-1:0 = 1/2/A 2/0/B [0, 1, 2]; 0/2/B 2/1/A [0, 1, 2]; 0/0/A 1/1/B [0, 1, 2];
+1 | 0-0 | 4*0 | 3-0:0 = 3/0/B [0, 3]; [1]; [2]; 0/0/A [0, 3]; ";
 
 fn roles(alloc: Global, count: &str) -> Result<Vec<Role>, Fail> {
     let mut roles = Vec::new(alloc);
@@ -77,18 +79,21 @@ fn refuses_the_first_fault(rt: HostRuntime) -> Result<(), Fail> {
     expect(&rt, rt.alloc(), FAULTS, fault_told)
 }
 
+fn push_around(alloc: Global, text: &mut String, network: &Network, k: u32) -> Result<(), Fail>
+    requires { k < length network.now.processes }
+{
+    for b in network.neighbours(k) {
+        text.push_str(&format!(in alloc; "{}/{}/{:?} ", b.process, b.edge, b.side)?)?;
+    }
+    text.push_str(&format!(in alloc; "{:?}; ", network.lock_plan(k))?)?;
+    Ok(())
+}
+
 fn neighbours_told(alloc: Global, parts: &str) -> Result<String, Fail> {
     let network = made(alloc, parts)??.copy(alloc)?;
     let mut text = String::new(alloc);
     for k in 0..network.processes().len() {
-        for b in network.neighbours(k as u32) {
-            text.push_str(format!(in alloc; "{}/{}/{:?} ", b.process, b.edge, b.side)?.as_str())?;
-        }
-        text.push('>')?;
-        for j in network.lock_plan(k as u32) {
-            text.push_str(format!(in alloc; " {j}")?.as_str())?;
-        }
-        text.push_str(", ")?;
+        push_around(alloc, &mut text, &network, k as u32)?;
     }
     Ok(text)
 }
@@ -98,11 +103,15 @@ fn lists_neighbours_and_plans(rt: HostRuntime) -> Result<(), Fail> {
     expect(&rt, rt.alloc(), NEIGHBOURS, neighbours_told)
 }
 
+fn parts_told(alloc: Global) -> Result<String, Fail> {
+    let network = made(alloc, "2 | 0-1 0-0 | 0 1 0 | 0-1:0 2-0:1")??;
+    let counts = [network.roles().len(), network.processes().len()];
+    Ok(format!(in alloc; "{counts:?} {:?} {:?}", network.ends(), network.edges())?)
+}
+
 #[test]
 fn has_its_parts(rt: HostRuntime) -> Result<(), Fail> {
-    let network = made(rt.alloc(), "2 | 0-1 0-0 | 0 1 0 | 0-1:0 2-0:1")??;
-    assert_eq!(rt; (network.roles().len(), network.processes().len()), (2, 3));
-    assert_eq!(rt; network.ends(), [(0, 1), (0, 0)].as_slice());
-    assert_eq!(rt; network.edges().len(), 2);
-    Ok(())
+    let wanted =
+        "[2, 3] [(0, 1), (0, 0)] [Edge { a: 0, b: 1, kind: 0 }, Edge { a: 2, b: 0, kind: 1 }]";
+    agree(&rt, parts_told(rt.alloc()), wanted)
 }

@@ -6,8 +6,9 @@ use std::alloc::Global;
 use std::test::Fail;
 
 /// The names of local states, the start, and arcs as their two ends, `129*01` for so many.
-const ROLES: &str = "N T C | 0 | 01 12 20 = phil N T C 0 01 12 20
-N T | 1 | 01 10 = phil N T 1 01 10
+const ROLES: &str =
+    "N T C | 0 | 01 12 20 = phil [Name { text: \"N\" }, Name { text: \"T\" }, Name { text: \"C\" }] 0 [LocalArc { from: 0, to: 1, free: false }, LocalArc { from: 1, to: 2, free: false }, LocalArc { from: 2, to: 0, free: false }]
+N T | 1 | 01 10 = phil [Name { text: \"N\" }, Name { text: \"T\" }] 1 [LocalArc { from: 0, to: 1, free: false }, LocalArc { from: 1, to: 0, free: false }]
  | 0 |  = no local state
 a b c d e f g h i j k l m n o p q r s t u v w x y z A B C D E F G | 33 |  = more than 32 local states
 N T N N | 4 |  = local state 2 has the name of an earlier one
@@ -47,16 +48,8 @@ fn arcs(alloc: Global, spelled: &str) -> Result<Vec<LocalArc>, Fail> {
 }
 
 fn role_text(alloc: Global, role: &Role) -> Result<String, Fail> {
-    let mut text = String::from_str(alloc, role.name().as_str())?;
-    for local in role.locals() {
-        text.push(' ')?;
-        text.push_str(local.as_str())?;
-    }
-    text.push_str(format!(in alloc; " {}", role.start())?.as_str())?;
-    for arc in role.arcs() {
-        text.push_str(format!(in alloc; " {}{}", arc.from, arc.to)?.as_str())?;
-    }
-    Ok(text)
+    let (name, locals) = (role.name().as_str(), role.locals());
+    Ok(format!(in alloc; "{name} {locals:?} {} {:?}", role.start(), role.arcs())?)
 }
 
 /// The copy of the role with these parts, or their first fault.

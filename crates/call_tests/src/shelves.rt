@@ -1,29 +1,41 @@
 //! Shelves and sinks, in memory and over the real files and output; and callers that know them by their traits alone.
 
-use edge_io::{FileShelf, MemoryShelf, MemorySink, OutSink, Shelf, Sink};
+ghost use Rattle.std.specs.Prelude.{◌≡◌, []};
+
+use crate::table::agree;
+use edge_io::{FileShelf, MemoryShelf, MemorySink, OutSink, Shelf, ShelfFault, Sink};
 use std::alloc::Global;
+use std::rt::Files;
 use std::test::Fail;
 use std::{fs, process};
 
-/// Takes a file of at most so many bytes, and gives its bytes or the fault.
+/// Takes a file into the empty `into`.
+fn take<S: Shelf>(shelf: &mut S, name: &str, max: u64, into: &mut Vec<u8>) -> Result<(), ShelfFault>
+    requires empty { into.old.items ≡ [] }
+    requires allowed { S.may_ask shelf.old name.now max }
+{
+    shelf.take(name, max, into)
+}
+
+/// What the shelf answers, and the bytes.
 fn taken<S: Shelf>(alloc: Global, shelf: &mut S, name: &str, max: u64) -> Result<String, Fail>
     requires { S.may_ask shelf.old name.now max }
 {
     let mut into = Vec::new(alloc);
-    match shelf.take(name, max, &mut into) {
-        Ok(()) => Ok(String::from_utf8_lossy(alloc, &into)?),
-        Err(fault) => Ok(format!(in alloc; "{fault}")?),
-    }
+    let answer = take(shelf, name, max, &mut into);
+    let text = String::from_utf8_lossy(alloc, &into)?;
+    Ok(format!(in alloc; "{answer:?} {text}")?)
 }
 
 /// Calls 2 and 4 of this shelf fail. A name, the most bytes, and what is answered.
-const TAKEN: &str = "spec 5 = three
-spec 4 = the file is too long
-spec 5 = the file cannot be read
-other 5 = the file cannot be read
-spec 5 = the file cannot be read
-spec 18446744073709551615 = three
-empty 0 = ";
+const TAKEN: &str = "spec 5 = Ok(()) three
+spec 4 = Err(Long)
+spec 5 = Err(Failed)
+other 5 = Err(Failed)
+spec 5 = Err(Failed)
+spec 18446744073709551615 = Ok(()) three
+empty 0 = Ok(())
+";
 
 fn memory_shelf(alloc: Global) -> Result<MemoryShelf, Fail> {
     let mut files = Vec::new(alloc);
@@ -35,17 +47,22 @@ fn memory_shelf(alloc: Global) -> Result<MemoryShelf, Fail> {
     Ok(MemoryShelf::new(files, vec![in alloc; 2, 4, 9]?))
 }
 
+/// What the shelf answers to each question of the table.
+fn shelf_told(alloc: Global) -> Result<String, Fail> {
+    let mut shelf = memory_shelf(alloc)?;
+    let mut text = String::new(alloc);
+    for row in TAKEN.lines() {
+        let (asked, _) = row.split_once(" =").ok_or("a row")?;
+        let (name, max) = asked.split_once(' ').ok_or("a name")?;
+        let answer = taken(alloc, &mut shelf, name, max.parse::<u64>()?)?;
+        text.push_str(&format!(in alloc; "{asked} = {}\n", answer.trim())?)?;
+    }
+    Ok(text)
+}
+
 #[test]
 fn shelves_in_memory_answer_as_told(rt: HostRuntime) -> Result<(), Fail> {
-    let alloc = rt.alloc();
-    let mut shelf = memory_shelf(alloc)?;
-    for row in TAKEN.lines() {
-        let (asked, answer) = row.split_once(" = ").ok_or("a row")?;
-        let (name, max) = asked.split_once(' ').ok_or("a name")?;
-        let text = taken(alloc, &mut shelf, name, max.parse::<u64>()?)?;
-        assert_eq!(rt; text.as_str(), answer, "{row}");
-    }
-    Ok(())
+    agree(&rt, shelf_told(rt.alloc()), TAKEN)
 }
 
 /// Puts a piece, and gives whether it was taken.
@@ -53,26 +70,29 @@ fn put<K: Sink>(sink: &mut K, piece: &str) -> bool {
     !piece.as_bytes().is_empty() && sink.put(piece.as_bytes()).is_ok()
 }
 
-/// Puts 1 and 5 of this sink fail, and there is room for six bytes. A piece, and what the sink has then.
-const PUTS: &str = "one = true one
-two = false one
-four = false one
-two = true onetwo
-x = false onetwo
-x = false onetwo";
+/// Puts 1 and 5 of this sink fail, and there is room for six bytes. Pieces, whether they are taken, and what the sink has then.
+const PUTS: &str = "one true one
+two false one
+four false one
+two true onetwo
+x false onetwo
+x false onetwo
+";
+
+fn sink_told(alloc: Global) -> Result<String, Fail> {
+    let mut sink = MemorySink::new(alloc, 6, vec![in alloc; 1, 5]?)?;
+    let mut text = String::new(alloc);
+    for piece in "one two four two x x".split(' ') {
+        let is_taken = put(&mut sink, piece);
+        let bytes = String::from_utf8_lossy(alloc, sink.bytes())?;
+        text.push_str(&format!(in alloc; "{piece} {is_taken} {bytes}\n")?)?;
+    }
+    Ok(text)
+}
 
 #[test]
 fn sinks_in_memory_answer_as_told(rt: HostRuntime) -> Result<(), Fail> {
-    let alloc = rt.alloc();
-    let mut sink = MemorySink::new(alloc, 6, vec![in alloc; 1, 5]?)?;
-    for row in PUTS.lines() {
-        let (piece, answer) = row.split_once(" = ").ok_or("a row")?;
-        let is_taken = put(&mut sink, piece);
-        let bytes = String::from_utf8_lossy(alloc, sink.bytes())?;
-        let text = format!(in alloc; "{is_taken} {bytes}")?;
-        assert_eq!(rt; text.as_str(), answer, "{row}");
-    }
-    Ok(())
+    agree(&rt, sink_told(rt.alloc()), PUTS)
 }
 
 #[test]
@@ -80,23 +100,28 @@ fn puts_to_the_real_output(rt: HostRuntime) {
     assert!(rt; put(&mut OutSink::new(&rt), "a short text\n"));
 }
 
-/// Takes 40,000 bytes of a real file, all or one too many, one that is not there, and a folder.
+/// The length of the answer to a real file of 40,000 bytes, and what is answered to it with one byte too many, to one that is not there, and to a folder.
+const REAL: &str = "40007, Err(Long), Err(Failed), Err(Failed)";
+
+fn real_told<R: Files>(rt: &R, alloc: Global, name: &str) -> Result<String, Fail> {
+    let mut shelf = FileShelf::new(rt);
+    let whole = taken(alloc, &mut shelf, name, 40_000)?.len();
+    let long = taken(alloc, &mut shelf, name, 39_999)?;
+    fs::remove_file(rt, name)?;
+    let missing = taken(alloc, &mut shelf, name, 40_000)?;
+    let folder = taken(alloc, &mut shelf, "/tmp", 40_000)?;
+    Ok(format!(in alloc;
+        "{whole}, {}, {}, {}",
+        long.trim(),
+        missing.trim(),
+        folder.trim()
+    )?)
+}
+
 #[test]
 fn takes_real_files(rt: HostRuntime) -> Result<(), Fail> {
-    let alloc = rt.alloc();
-    let name = format!(in alloc; "/tmp/call_tests_shelf_{}", process::id(rt.process()))?;
-    let bytes = vec![in alloc; b'x'; 40_000]?;
+    let name = format!(in rt.alloc(); "/tmp/call_tests_shelf_{}", process::id(rt.process()))?;
+    let bytes = vec![in rt.alloc(); b'x'; 40_000]?;
     fs::write(&rt, name.as_str(), bytes.as_slice())?;
-    let mut shelf = FileShelf::new(&rt);
-    let mut into = Vec::new(alloc);
-    let whole = shelf.take(name.as_str(), 40_000, &mut into);
-    assert!(rt; whole.is_ok() && into.as_slice() == bytes.as_slice());
-    let long = taken(alloc, &mut shelf, name.as_str(), 39_999)?;
-    assert_eq!(rt; long.as_str(), "the file is too long");
-    fs::remove_file(&rt, name.as_str())?;
-    let missing = taken(alloc, &mut shelf, name.as_str(), 40_000)?;
-    assert_eq!(rt; missing.as_str(), "the file cannot be read");
-    let folder = taken(alloc, &mut shelf, "/tmp", 40_000)?;
-    assert_eq!(rt; folder.as_str(), "the file cannot be read");
-    Ok(())
+    agree(&rt, real_told(&rt, rt.alloc(), name.as_str()), REAL)
 }

@@ -3,7 +3,7 @@
 ghost use Rattle.std.specs.Prelude.{IfOk};
 ghost use Rattle.skeleton_extract.specs.Commands.{HasLists};
 
-use crate::table::expect;
+use crate::table::{agree, expect};
 use pair_structure::{Name, Role, Side};
 use samples::{BOUND, FIRST, FOUR, role, structure, to_slashes};
 use skeleton_extract::{Skeleton, extract, write_skeleton};
@@ -22,16 +22,18 @@ fn skeleton(alloc: Global, role: &Role, spelled: &str) -> Result<Skeleton, Fail>
     Ok(s)
 }
 
-#[test]
-fn writes_skeletons_after_a_text(rt: HostRuntime) -> Result<(), Fail> {
-    let alloc = rt.alloc();
+fn text_told(alloc: Global) -> Result<String, Fail> {
     let role = role(alloc, BOUND)?;
     let s = skeleton(alloc, &role, FIRST)?;
     let kind = Name::make(alloc, "mutex")?;
     let mut text = Vec::from_slice(alloc, b"skeleton 1\n")?;
     write_skeleton(alloc, &s, &kind, &role, &role, &mut text)?;
-    assert_eq!(rt; to_slashes(alloc, &text)?.as_str(), FIRST_TEXT);
-    Ok(())
+    to_slashes(alloc, &text)
+}
+
+#[test]
+fn writes_skeletons_after_a_text(rt: HostRuntime) -> Result<(), Fail> {
+    agree(&rt, text_told(rt.alloc()), FIRST_TEXT)
 }
 
 /// The arc of side a, the other's local state, the value and the pick; then the choice of FOUR, and how many commands the arc has.

@@ -1,5 +1,6 @@
 //! Solutions of two kinds of lamps: read and written, and the first kind that fails.
 
+use crate::table::agree;
 use ctl_text::Spec;
 use samples::{LAMP, spec, to_lines, to_slashes};
 use solution_text::{Solution, first_failing, read_solution, write_solution};
@@ -35,26 +36,34 @@ fn failing(alloc: Global, turns: &str, still: &str) -> Result<String, Fail> {
     Ok(format!(in alloc; "{is_same} {} {first:?}", sol.structures().len())?)
 }
 
-#[test]
-fn names_the_first_kind_that_fails(rt: HostRuntime) -> Result<(), Fail> {
-    let alloc = rt.alloc();
-    assert_eq!(rt; failing(alloc, TURNS, STUCK)?.as_str(), "true 2 Some(1)");
-    assert_eq!(rt; failing(alloc, TURNS, TURNS)?.as_str(), "true 2 None");
-    assert_eq!(rt; failing(alloc, STUCK, STUCK)?.as_str(), "true 2 Some(1)");
-    Ok(())
+fn solutions_told(alloc: Global) -> Result<String, Fail> {
+    let first = failing(alloc, TURNS, STUCK)?;
+    let second = failing(alloc, TURNS, TURNS)?;
+    Ok(format!(in alloc; "{first}, {second}")?)
 }
 
 #[test]
-fn has_what_it_was_made_of(rt: HostRuntime) -> Result<(), Fail> {
-    let alloc = rt.alloc();
+fn names_the_first_kind_that_fails(rt: HostRuntime) -> Result<(), Fail> {
+    agree(
+        &rt,
+        solutions_told(rt.alloc()),
+        "true 2 Some(1), true 2 None",
+    )
+}
+
+/// The solution of no kinds, which is made of no structures.
+fn made_told(alloc: Global) -> Result<String, Fail> {
     let spec = spec(alloc, "")?;
     if !spec.kinds().is_empty() {
         return Err(Fail::from("a kind"));
     }
     let sol = Solution::make(&spec, Vec::new(alloc));
-    assert!(rt; sol.structures().is_empty());
     let mut written = Vec::new(alloc);
     write_solution(alloc, &spec, &sol, &mut written)?;
-    assert_eq!(rt; to_slashes(alloc, &written)?.as_str(), "solution 1/done/");
-    Ok(())
+    to_slashes(alloc, &written)
+}
+
+#[test]
+fn has_what_it_was_made_of(rt: HostRuntime) -> Result<(), Fail> {
+    agree(&rt, made_told(rt.alloc()), "solution 1/done/")
 }

@@ -7,8 +7,8 @@ use std::alloc::Global;
 use std::test::Fail;
 
 /// Lines of specifications, and what is written between the head and `done`. A `/` is a line feed.
-const SPECS: &str = " = 
-#c// = 
+const SPECS: &str = " =
+#c// =
 role r/local L/local M/start M/arc M L free/arc L M/end/ = role r/local L/local M/start M/arc M L free/arc L M/end/
 role r/local L/local M/start M/arc M L/arc L M/end/kind k r r/require (((a.L)))->b.M->A[ a.L&b.L W EXa true ]/end/ = role r/local L/local M/start M/arc M L/arc L M/end/kind k r r/require (a.L -> (b.M -> A[(a.L & b.L) W EXa true]))/end/
 role  phil/\tlocal N/local T/start N/arc N T free/arc T N/end/kind k phil phil/require AG !(a.T & b.T)/end/# p/process p phil/process q phil/edge q p k/ = role phil/local N/local T/start N/arc N T free/arc T N/end/kind k phil phil/require AG !(a.T & b.T)/end/process p phil/process q phil/edge q p k/";

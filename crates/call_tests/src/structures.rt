@@ -1,10 +1,9 @@
 //! Structures over philosophers: the first fault of parts that make none, and what a structure tells.
 
-use crate::table::expect;
+use crate::table::{agree, expect};
 use pair_structure::{PairStructure, Role, Side, arrange};
 use samples::{BOUND, FIRST, LAMP, labels, moves, role, structure};
 use std::alloc::Global;
-use std::process::Abort;
 use std::test::Fail;
 
 /// Labels and moves, and their first fault.
@@ -38,8 +37,9 @@ fn makes_structures_or_names_the_first_fault(rt: HostRuntime) -> Result<(), Fail
     expect(&rt, rt.alloc(), STRUCTURES, structure_told)
 }
 
-/// Of each state its ordinal, and how many moves of a and of b leave it.
-const ORDINALS: &str = "0 1 1, 0 1 1, 0 1 1, 0 1 1, 0 1 0, 1 0 1, 0 1 1, 0 1 0, 0 0 1, ";
+/// Of each state its ordinal, and how many moves of a and of b leave it; then what is found.
+const COPY: &str =
+    "0 1 1, 0 1 1, 0 1 1, 0 1 1, 0 1 0, 1 0 1, 0 1 1, 0 1 0, 0 0 1, Some(5) None None [true, false]";
 
 fn ordinals(alloc: Global, m: &PairStructure) -> Result<String, Fail> {
     let mut text = String::new(alloc);
@@ -51,41 +51,39 @@ fn ordinals(alloc: Global, m: &PairStructure) -> Result<String, Fail> {
     Ok(text)
 }
 
-fn expect_roles(
-    rt: &impl Abort,
-    alloc: Global,
-    m: &PairStructure,
-    role: &Role,
-) -> Result<(), Fail> {
+/// The states with some labels and ordinals, and whether the structure is over two such roles, and over one and a lamp.
+fn found(alloc: Global, m: &PairStructure, role: &Role) -> Result<String, Fail> {
     let lamp = samples::role(alloc, LAMP)?;
-    assert!(rt; m.is_over(role, role) && !m.is_over(role, &lamp));
-    Ok(())
+    let over = [m.is_over(role, role), m.is_over(role, &lamp)];
+    let (there, past, never) = (
+        m.state_at(1, 1, 1),
+        m.state_at(1, 1, 2),
+        m.state_at(255, 0, 0),
+    );
+    Ok(format!(in alloc; "{there:?} {past:?} {never:?} {over:?}")?)
+}
+
+fn copy_told(alloc: Global) -> Result<String, Fail> {
+    let role = role(alloc, BOUND)?;
+    let m = structure(alloc, &role, &role, FIRST)?.copy(alloc)?;
+    let ordinals = ordinals(alloc, &m)?;
+    let found = found(alloc, &m, &role)?;
+    Ok(format!(in alloc; "{ordinals}{found}")?)
 }
 
 #[test]
 fn tells_states_moves_and_roles(rt: HostRuntime) -> Result<(), Fail> {
-    let alloc = rt.alloc();
-    let role = role(alloc, BOUND)?;
-    let made = structure(alloc, &role, &role, FIRST)?;
-    let copy = made.copy(alloc)?;
-    assert_eq!(rt; copy.moves(), made.moves());
-    assert_eq!(rt; ordinals(alloc, &copy)?.as_str(), ORDINALS);
-    let found = [
-        copy.state_at(1, 1, 1),
-        copy.state_at(1, 1, 2),
-        copy.state_at(255, 0, 0),
-    ];
-    assert_eq!(rt; found, [Some(5), None, None]);
-    expect_roles(&rt, alloc, &copy, &role)
+    agree(&rt, copy_told(rt.alloc()), COPY)
+}
+
+fn arranged_told(alloc: Global) -> Result<String, Fail> {
+    let mut steps = moves(alloc, "1b0 0b1 0a2 1b0 0a1")?;
+    arrange(&mut steps);
+    let wanted = moves(alloc, "0a1 0a2 0b1 1b0")?;
+    Ok(format!(in alloc; "{}", steps.as_slice() == wanted.as_slice())?)
 }
 
 #[test]
 fn arranges_by_from_then_side_then_to(rt: HostRuntime) -> Result<(), Fail> {
-    let mut unordered = moves(rt.alloc(), "1b0 0b1 0a2 1b0 0a1")?;
-    arrange(&mut unordered);
-    assert_eq!(rt;
-        unordered.as_slice(),
-        moves(rt.alloc(), "0a1 0a2 0b1 1b0")?.as_slice()
-    );
-    Ok(())
+    agree(&rt, arranged_told(rt.alloc()), "true")
 }

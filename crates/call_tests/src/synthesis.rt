@@ -1,6 +1,6 @@
 //! Deletion, ranks and synthesis: kinds of philosophers of which the root is deleted or left, and what is unravelled.
 
-use crate::table::expect;
+use crate::table::{agree, expect};
 use ctl_form::{Part, solves};
 use deletion_rules::{Pruned, Ranks, prune};
 use pair_structure::PairStructure;
@@ -118,10 +118,13 @@ fn alive(pruned: Pruned) -> Option<Ranks> {
     }
 }
 
+/// Whether the root is left, and how many untils are ranked.
+fn ranks_told(alloc: Global) -> Result<String, Fail> {
+    let ranks = alive(pruned(alloc, PHIL, FAIR)?).ok_or("a living root")?;
+    Ok(format!(in alloc; "{} {}", ranks.lives_or(0), ranked_untils(&ranks))?)
+}
+
 #[test]
 fn ranks_the_untils_of_fair_philosophers(rt: HostRuntime) -> Result<(), Fail> {
-    let ranks = alive(pruned(rt.alloc(), PHIL, FAIR)?).ok_or("a living root")?;
-    assert!(rt; ranks.lives_or(0));
-    assert_eq!(rt; ranked_untils(&ranks), 2);
-    Ok(())
+    agree(&rt, ranks_told(rt.alloc()), "true 2")
 }

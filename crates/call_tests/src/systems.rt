@@ -2,7 +2,7 @@
 
 ghost use Rattle.conjunctive_compose.specs.Whole.{IsProper};
 
-use crate::table::expect;
+use crate::table::{agree, expect};
 use conjunctive_compose::{System, Whole, Wish};
 use samples::{BOUND, FIRST, FOUR, LAMP, TURN, system};
 use std::alloc::Global;
@@ -91,17 +91,22 @@ fn permitted(system: &System, w: &Whole, process: u32, arc: u32, edge: u32) -> O
     None
 }
 
+fn permits_told(alloc: Global) -> Result<String, Fail> {
+    let system = system(alloc, LAMP, TURN, "3*0", "0-1:0 1-2:0")?;
+    let w = system.start(alloc)?;
+    let first = permitted(&system, &w, 1, 0, 0);
+    let second = permitted(&system, &w, 1, 0, 1);
+    let third = permitted(&system, &w, 2, 0, 1);
+    Ok(format!(in alloc; "{first:?} {second:?} {third:?}")?)
+}
+
 #[test]
 fn permits_by_edge(rt: HostRuntime) -> Result<(), Fail> {
-    let system = system(rt.alloc(), LAMP, TURN, "3*0", "0-1:0 1-2:0")?;
-    let w = system.start(rt.alloc())?;
-    let permits = [
-        permitted(&system, &w, 1, 0, 0),
-        permitted(&system, &w, 1, 0, 1),
-        permitted(&system, &w, 2, 0, 1),
-    ];
-    assert_eq!(rt; permits, [Some(true), Some(false), Some(true)]);
-    Ok(())
+    agree(
+        &rt,
+        permits_told(rt.alloc()),
+        "Some(true) Some(false) Some(true)",
+    )
 }
 
 /// The state of the first edge's pair, and the count of moves of its structure.
@@ -115,17 +120,21 @@ fn pair_told(alloc: Global, system: &System, w: &Whole) -> Result<String, Fail>
     Ok(format!(in alloc; "{} {moves}", system.pair_state(w, 0))?)
 }
 
-#[test]
-fn tells_the_pair_state(rt: HostRuntime) -> Result<(), Fail> {
-    let alloc = rt.alloc();
+/// Before and after the first lamp of side b is switched on.
+fn pairs_told(alloc: Global) -> Result<String, Fail> {
     let system = system(alloc, LAMP, TURN, "2*0", "0-1:0")?;
     let mut w = system.start(alloc)?;
     let wish = wish("1/0/0")?;
     if !system.fits(wish) {
         return Err(Fail::from("no such arc"));
     }
-    assert_eq!(rt; pair_told(alloc, &system, &w)?.as_str(), "0 4");
+    let before = pair_told(alloc, &system, &w)?;
     system.step(&mut w, wish);
-    assert_eq!(rt; pair_told(alloc, &system, &w)?.as_str(), "1 4");
-    Ok(())
+    let after = pair_told(alloc, &system, &w)?;
+    Ok(format!(in alloc; "{before}, {after}")?)
+}
+
+#[test]
+fn tells_the_pair_state(rt: HostRuntime) -> Result<(), Fail> {
+    agree(&rt, pairs_told(rt.alloc()), "0 4, 1 4")
 }

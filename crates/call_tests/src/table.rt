@@ -1,8 +1,15 @@
-//! Tables: each row is a question, ` = ` and the answer.
+//! Tables: each row is a question, ` = ` and the answer; and single answers. Spaces around an answer do not count.
 
 use std::alloc::Global;
 use std::process::Abort;
 use std::test::Fail;
+
+/// Wants that this is told.
+pub(crate) fn agree(rt: &impl Abort, told: Result<String, Fail>, answer: &str) -> Result<(), Fail> {
+    let text = told?;
+    assert_eq!(rt; text.as_str().trim(), answer.trim());
+    Ok(())
+}
 
 /// Wants of each row that what is told of the question is the answer.
 pub(crate) fn expect<F: Fn(Global, &str) -> Result<String, Fail>>(
@@ -14,9 +21,9 @@ pub(crate) fn expect<F: Fn(Global, &str) -> Result<String, Fail>>(
     requires { F.IsAlwaysCallable told }
 {
     for row in rows.lines() {
-        let (question, answer) = row.split_once(" = ").ok_or("a row")?;
+        let (question, answer) = row.split_once(" =").ok_or("a row")?;
         let text = told(alloc, question)?;
-        assert_eq!(rt; text.as_str(), answer, "{question}");
+        assert_eq!(rt; text.as_str().trim(), answer.trim(), "{question}");
     }
     Ok(())
 }

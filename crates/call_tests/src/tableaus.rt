@@ -1,40 +1,31 @@
 //! Graphs of small kinds, worked out by hand from the rules, and tables of nodes.
 
-use closure_sets::Closure;
+use crate::table::agree;
 use deletion_rules::Position;
 use samples::{LAMP, PHIL, closure, role};
 use std::alloc::Global;
 use std::test::Fail;
 use tableau_graph::{NodeTable, Tableau, is_some_next, push_some};
 
-/// `EXa true` and `AXa b.L` over two lamps. Members: 0 true, 1 false, 2 EXa 0, 3 EXb 0, 4 b.0, 5 AXa 4. After node 0 come two nodes with
-/// b.0, and after those, at each of the four pairs, one that moves a and one that moves b.
-const CHILDREN: &str = "0 /1 2 /3 4 /5 6 /7 8 /9 10 /9 10 /7 8 /5 6 /3 4 /";
+/// `EXa true` and `AXa b.L` over two lamps. Members: 0 true, 1 false, 2 EXa 0, 3 EXb 0, 4 b.0, 5 AXa 4. Figures, then the children of the
+/// OR nodes, then the successors of the AND nodes: after node 0 come two nodes with b.0, and after those, at each of the four pairs, one
+/// that moves a and one that moves b.
+const GRAPH: &str = "6 [2, 2] Some(A) [true, false, true]
+[0][1, 2][3, 4][5, 6][7, 8][9, 10][9, 10][7, 8][5, 6][3, 4]
+[1][2][3][4][5][6][7][2][3][8][9]";
 
-const SUCCESSORS: &str = "1 /2 /3 /4 /5 /6 /7 /2 /3 /8 /9 /";
-
-fn push_numbers(alloc: Global, text: &mut String, numbers: &[u64]) -> Result<(), Fail> {
-    for number in numbers {
-        text.push_str(&format!(in alloc; "{number} ")?)?;
+fn push_children(alloc: Global, text: &mut String, t: &Tableau) -> Result<(), Fail> {
+    for or in 0..t.ors().len() {
+        text.push_str(&format!(in alloc; "{:?}", t.children(or as u64))?)?;
     }
-    text.push('/')?;
     Ok(())
 }
 
-fn children_text(alloc: Global, t: &Tableau) -> Result<String, Fail> {
-    let mut text = String::new(alloc);
-    for or in 0..t.ors().len() {
-        push_numbers(alloc, &mut text, t.children(or as u64))?;
-    }
-    Ok(text)
-}
-
-fn successors_text(alloc: Global, t: &Tableau) -> Result<String, Fail> {
-    let mut text = String::new(alloc);
+fn push_successors(alloc: Global, text: &mut String, t: &Tableau) -> Result<(), Fail> {
     for and in 0..t.ands().len() {
-        push_numbers(alloc, &mut text, t.successors(and as u64))?;
+        text.push_str(&format!(in alloc; "{:?}", t.successors(and as u64))?)?;
     }
-    Ok(text)
+    Ok(())
 }
 
 fn tableau(alloc: Global, lines: &str, clauses: &str) -> Result<Tableau, Fail> {
@@ -47,73 +38,86 @@ fn tableau(alloc: Global, lines: &str, clauses: &str) -> Result<Tableau, Fail> {
 fn figures(alloc: Global, t: &Tableau) -> Result<String, Fail> {
     let node = t.ors().get(1).ok_or("a second node")?;
     let row = [node.row.has(0), node.row.has(2), node.row.has(4)];
-    let (a, b) = (t.role_a().locals().len(), t.role_b().locals().len());
-    Ok(format!(in alloc; "{} {a} {b} {:?} {row:?}", t.closure().count(), node.side)?)
+    let roles = [t.role_a().locals().len(), t.role_b().locals().len()];
+    Ok(format!(in alloc; "{} {roles:?} {:?} {row:?}", t.closure().count(), node.side)?)
+}
+
+fn lamps(alloc: Global) -> Result<Tableau, Fail> {
+    tableau(alloc, LAMP, "EXa true; AXa b.L")
+}
+
+fn graph_told(alloc: Global) -> Result<String, Fail> {
+    let t = lamps(alloc)?;
+    let mut text = figures(alloc, &t)?;
+    text.push('\n')?;
+    push_children(alloc, &mut text, &t)?;
+    text.push('\n')?;
+    push_successors(alloc, &mut text, &t)?;
+    Ok(text)
 }
 
 #[test]
 fn builds_a_small_graph(rt: HostRuntime) -> Result<(), Fail> {
-    let alloc = rt.alloc();
-    let t = tableau(alloc, LAMP, "EXa true; AXa b.L")?;
-    assert_eq!(rt; children_text(alloc, &t)?.as_str(), CHILDREN);
-    assert_eq!(rt; successors_text(alloc, &t)?.as_str(), SUCCESSORS);
-    assert_eq!(rt;
-        figures(alloc, &t)?.as_str(),
-        "6 2 2 Some(A) [true, false, true]"
-    );
-    Ok(())
+    agree(&rt, graph_told(rt.alloc()), GRAPH)
 }
 
 /// `AG !a.T` against the free arc from N to T: the root has nodes, and each of them leads to an OR node without children.
+fn dead_end_told(alloc: Global) -> Result<String, Fail> {
+    let t = tableau(alloc, PHIL, "AG !a.T")?;
+    let mut text = String::new(alloc);
+    push_children(alloc, &mut text, &t)?;
+    let signs = [
+        text.as_str().starts_with("[]"),
+        text.as_str().contains("[]"),
+    ];
+    Ok(format!(in alloc; "{signs:?}")?)
+}
+
 #[test]
 fn builds_a_graph_with_a_dead_end(rt: HostRuntime) -> Result<(), Fail> {
-    let alloc = rt.alloc();
-    let t = tableau(alloc, PHIL, "AG !a.T")?;
-    let text = children_text(alloc, &t)?;
-    assert!(rt; !text.as_str().starts_with('/') && text.as_str().contains("//"));
-    Ok(())
+    agree(&rt, dead_end_told(rt.alloc()), "[false, true]")
 }
 
-/// The OR node that node 0 leads to for a member.
-fn next_of_first(t: &Tableau, member: u32) -> u64 {
-    if t.ands().is_empty() || member > t.closure().count() {
-        return 0;
+/// The members EXs h, with the OR node to which node 0 leads for each.
+fn moving_told(alloc: Global) -> Result<String, Fail> {
+    let t = lamps(alloc)?;
+    if t.ands().is_empty() {
+        return Err(Fail::from("no node"));
     }
-    t.next_or(0, member)
-}
-
-fn moving_members(c: &Closure) -> u32 {
-    let mut count = 0u32;
-    for member in 0..c.count() {
-        if is_some_next(c.part(member)) {
-            count = count.saturating_add(1);
+    let mut text = String::new(alloc);
+    for member in 0..t.closure().count() {
+        if is_some_next(t.closure().part(member)) {
+            text.push_str(&format!(in alloc; "{member} {} ", t.next_or(0, member))?)?;
         }
     }
-    count
+    Ok(text)
 }
 
+/// Member 3 is not in the row of node 0, which has one successor.
 #[test]
 fn follows_some_next(rt: HostRuntime) -> Result<(), Fail> {
-    let t = tableau(rt.alloc(), LAMP, "EXa true; AXa b.L")?;
-    assert_eq!(rt; moving_members(t.closure()), 2);
-    assert_eq!(rt; next_of_first(&t, 2), 1);
-    Ok(())
+    agree(&rt, moving_told(rt.alloc()), "2 1 3 0 ")
 }
 
-#[test]
-fn numbers_positions(rt: HostRuntime) -> Result<(), Fail> {
-    let alloc = rt.alloc();
+/// A place that is there, none, and another.
+fn positions(alloc: Global) -> Result<Vec<Position>, Fail> {
     let mut positions = Vec::new(alloc);
     push_some(&mut positions, Some(Position { node: 7, place: 0 }))?;
     push_some(&mut positions, None)?;
     push_some(&mut positions, Some(Position { node: 7, place: 1 }))?;
+    Ok(positions)
+}
+
+fn numbers_told(alloc: Global) -> Result<String, Fail> {
     let mut table = NodeTable::new(alloc);
-    assert_eq!(rt; table.number(Position { node: 7, place: 1 })?, 0);
-    assert_eq!(rt;
-        table.number_each(alloc, &positions)?.as_slice(),
-        [1, 0].as_slice()
-    );
-    assert_eq!(rt; table.nodes().len(), 2);
-    assert_eq!(rt; table.into_nodes().len(), 2);
-    Ok(())
+    let first = table.number(Position { node: 7, place: 1 })?;
+    let numbers = table.number_each(alloc, &positions(alloc)?)?;
+    let count = table.nodes().len();
+    let nodes = table.into_nodes();
+    Ok(format!(in alloc; "{first} {:?} {count} {}", numbers.as_slice(), nodes.len())?)
+}
+
+#[test]
+fn numbers_positions(rt: HostRuntime) -> Result<(), Fail> {
+    agree(&rt, numbers_told(rt.alloc()), "0 [1, 0] 2 2")
 }

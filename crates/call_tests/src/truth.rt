@@ -11,39 +11,39 @@ use std::alloc::Global;
 use std::test::Fail;
 
 /// A formula over philosophers, and its truth at each state of FIRST, LAST and PRIOR.
-const PHILOSOPHERS: &str = "true =  111111111 111111111 11111111
-false =  000000000 000000000 00000000
-a.T =  010011001 010011001 01001001
-b.C =  000000101 000000101 00000101
-!a.N =  010111011 010111011 01011011
-a.T & b.T =  000011000 000011000 00001000
-a.C | b.C =  000100111 000100111 00010111
-a.T -> b.N =  111100110 111100110 11110110
-AXa a.C =  010011001 010011001 01001001
-EXb b.T =  110100000 110100000 11010000
-AXb b.C =  001011010 001011010 00101010
-EXa a.T =  101000100 101000100 10100100
-AX a.T =  000001001 000010001 00000001
-EX b.C =  001001100 001010100 00100100
-AG (a.T -> AF a.C) =  111111111 000000000 11111111
-EG !a.C =  101000100 111010101 10100100
-AF a.C =  010111011 000101010 01011011
-EF (a.C & b.N) =  111111111 111111111 11111111
-A[a.T U a.C] =  010111011 000101010 01011011
-A[a.T W a.C] =  010111011 010111011 01011011
-E[a.N U a.C] =  000100010 000100010 00010010
-E[a.N W a.C] =  101100110 101100110 10110110
-A[b.N U b.T] =  001011010 001011010 00101010
-A[b.N W b.T] =  111111010 111111010 11111010
-E[b.T W b.N] =  110100000 111101010 11111010";
+const PHILOSOPHERS: &str = "true = 111111111 111111111 11111111
+false = 000000000 000000000 00000000
+a.T = 010011001 010011001 01001001
+b.C = 000000101 000000101 00000101
+!a.N = 010111011 010111011 01011011
+a.T & b.T = 000011000 000011000 00001000
+a.C | b.C = 000100111 000100111 00010111
+a.T -> b.N = 111100110 111100110 11110110
+AXa a.C = 010011001 010011001 01001001
+EXb b.T = 110100000 110100000 11010000
+AXb b.C = 001011010 001011010 00101010
+EXa a.T = 101000100 101000100 10100100
+AX a.T = 000001001 000010001 00000001
+EX b.C = 001001100 001010100 00100100
+AG (a.T -> AF a.C) = 111111111 000000000 11111111
+EG !a.C = 101000100 111010101 10100100
+AF a.C = 010111011 000101010 01011011
+EF (a.C & b.N) = 111111111 111111111 11111111
+A[a.T U a.C] = 010111011 000101010 01011011
+A[a.T W a.C] = 010111011 010111011 01011011
+E[a.N U a.C] = 000100010 000100010 00010010
+E[a.N W a.C] = 101100110 101100110 10110110
+A[b.N U b.T] = 001011010 001011010 00101010
+A[b.N W b.T] = 111111010 111111010 11111010
+E[b.T W b.N] = 110100000 111101010 11111010";
 
 /// The same for TURN.
-const LAMPS: &str = "AXa b.R =  1110
-EXb a.R =  0010
-AX a.R =  0110
-A[a.L U b.R] =  1110
-EG a.L =  0000
-AF (a.R & b.R) =  1111";
+const LAMPS: &str = "AXa b.R = 1110
+EXb a.R = 0010
+AX a.R = 0110
+A[a.L U b.R] = 1110
+EG a.L = 0000
+AF (a.R & b.R) = 1111";
 
 /// A space, and the truth of a formula at each state of a structure.
 fn push_row(
@@ -84,9 +84,9 @@ fn formulas_are_true_where_they_hold(rt: HostRuntime) -> Result<(), Fail> {
 }
 
 /// Clauses of philosophers, and whether FIRST, LAST and PRIOR satisfy them and the free arcs.
-const SOLVED: &str = "AG !(a.C & b.C) =  true true true
-AG !(a.C & b.C); AG (a.T -> AF a.C); AG (b.T -> AF b.C) =  true false false
-AG !a.T =  false false false";
+const SOLVED: &str = "AG !(a.C & b.C) = true true true
+AG !(a.C & b.C); AG (a.T -> AF a.C); AG (b.T -> AF b.C) = true false false
+AG !a.T = false false false";
 
 fn push_solved(
     alloc: Global,
@@ -134,7 +134,7 @@ fn solved_when_repeated(alloc: Global, clauses: &str) -> Result<String, Fail> {
 #[test]
 fn structures_satisfy_kinds(rt: HostRuntime) -> Result<(), Fail> {
     expect(&rt, rt.alloc(), SOLVED, solved_by_philosophers)?;
-    expect(&rt, rt.alloc(), " =  false false false", solved_by_unbarred)?;
-    let repeated = "AG (a.T -> AF a.C); AG !(a.C & b.C) =  true false true";
+    expect(&rt, rt.alloc(), " = false false false", solved_by_unbarred)?;
+    let repeated = "AG (a.T -> AF a.C); AG !(a.C & b.C) = true false true";
     expect(&rt, rt.alloc(), repeated, solved_when_repeated)
 }
