@@ -1,14 +1,13 @@
 //! Roles, formulas, kinds and what is made of them, spelled as the lines of a specification. A role is its lines; clauses are parted by
 //! semicolons.
 
+use crate::texts::to_lines;
 use closure_sets::Closure;
 use ctl_form::{Formula, Normal, whole};
 use ctl_text::{Spec, read_spec};
 use pair_structure::Role;
 use std::alloc::Global;
 use std::test::Fail;
-
-use crate::texts::to_lines;
 
 /// The specification of these lines, which stand between the head and `done`.
 pub fn spec(alloc: Global, lines: &str) -> Result<Spec, Fail> {

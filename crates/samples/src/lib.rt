@@ -13,5 +13,5 @@ pub use kinds::{closure, conjuncts, first_role, formula, normal, pair, role, spe
 pub use structures::{labels, moves, structure};
 pub use systems::system;
 pub use texts::{
-    BOUND, FAIR, FIRST, FOUR, LAMP, LAST, PHIL, PRIOR, TURN, UNBARRED, to_slashes, to_lines,
+    BOUND, FAIR, FIRST, FOUR, LAMP, LAST, PHIL, PRIOR, TURN, UNBARRED, to_lines, to_slashes,
 };
