@@ -2,7 +2,7 @@
 
 use crate::table::{agree, expect};
 use edge_io::{MemoryShelf, MemorySink};
-use samples::{PHIL, to_lines, to_slashes};
+use samples::{PHIL, cut, long, to_lines, to_slashes};
 use skeleton_tool::plan;
 use std::alloc::Global;
 use std::test::Fail;
@@ -67,9 +67,9 @@ fn planned(alloc: Global, words: &str, shelf: u64, sink: u64) -> Result<String, 
 }
 
 fn told(alloc: Global, asked: &str) -> Result<String, Fail> {
-    let (shelf, rest) = asked.split_once(' ').ok_or("a call")?;
-    let (sink, words) = rest.split_once(' ').ok_or("a put")?;
-    planned(alloc, words, shelf.parse::<u64>()?, sink.parse::<u64>()?)
+    let (shelf, rest) = cut(asked, " ");
+    let (sink, words) = cut(rest, " ");
+    planned(alloc, words, long(shelf), long(sink))
 }
 
 #[test]
@@ -81,8 +81,8 @@ fn answers_each_command(rt: HostRuntime) -> Result<(), Fail> {
 fn long_told(alloc: Global) -> Result<String, Fail> {
     let made = told(alloc, "9 9 synth spec")?;
     let shown = told(alloc, "9 9 skel spec sol")?;
-    let first = made.as_str().get(..29).ok_or("a long text")?;
-    let second = shown.as_str().get(..35).ok_or("a long text")?;
+    let first = made.as_str().get(..29).unwrap_or("");
+    let second = shown.as_str().get(..35).unwrap_or("");
     Ok(format!(in alloc; "{first}; {second}")?)
 }
 

@@ -4,7 +4,7 @@ use crate::table::{agree, expect};
 use closure_sets::{Closure, Row, full_rows};
 use ctl_form::Part;
 use pair_structure::Side;
-use samples::{BOUND, FAIR, PHIL, closure};
+use samples::{BOUND, FAIR, PHIL, byte, closure, cut, number};
 use std::alloc::Global;
 use std::test::Fail;
 
@@ -32,15 +32,15 @@ const EASY: &str = "01:2 6 = 2 5 6 /
 00:3 10 = 2 3 10 /
 00:2 10 = 2 10 /";
 
-fn row_of(text: &str) -> Result<Row, Fail> {
+fn row_of(text: &str) -> Row {
     let mut row = Row::empty();
     for word in text.split_whitespace() {
-        let member = word.parse::<u32>()?;
+        let member = number(word);
         if member < 512 {
             row.add(member);
         }
     }
-    Ok(row)
+    row
 }
 
 fn push_members(alloc: Global, text: &mut String, c: &Closure, row: &Row) -> Result<(), Fail> {
@@ -55,10 +55,10 @@ fn push_members(alloc: Global, text: &mut String, c: &Closure, row: &Row) -> Res
 
 /// The rows of the seed that stands behind the two digits of the label and a colon.
 fn rows_of(alloc: Global, c: &Closure, asked: &str) -> Result<String, Fail> {
-    let (label, seed) = asked.split_once(':').ok_or("a seed")?;
-    let label = label.parse::<u8>()?;
+    let (label, seed) = cut(asked, ":");
+    let label = byte(label);
     let mut text = String::new(alloc);
-    for row in &full_rows(alloc, c, label / 10, label % 10, &row_of(seed)?)? {
+    for row in &full_rows(alloc, c, label / 10, label % 10, &row_of(seed))? {
         push_members(alloc, &mut text, c, row)?;
     }
     Ok(text)

@@ -1,68 +1,57 @@
-//! Networks, spelled as rows: so many roles; the roles of each kind as `0-1`; the processes; the edges. The parts stand between bars.
-
-ghost use Rattle.std.specs.Prelude.{◌<◌, length};
+//! Networks, spelled as rows: so many roles; the roles of each kind as `01`; the processes; the edges. The parts stand between bars.
 
 use crate::table::{agree, expect};
 use interconnection::{Network, NetworkFault};
 use pair_structure::Role;
-use samples::{LAMP, edges, processes, role};
+use samples::{LAMP, cut, edges, labels, number, processes, role};
 use std::alloc::Global;
 use std::test::Fail;
 
 /// Each fault at its first place, and of two faults the one that comes first. Process 5 has 32 neighbours, and then 33.
 const FAULTS: &str = "0 | | |  = a network
-2 | 0-1 | 0 1 | 0-1:0 = a network
-16 | 0-0 0-0 0-0 0-0 0-0 0-0 0-0 0-0 0-0 0-0 0-0 0-0 0-0 0-0 0-0 0-0 | 1024*15 |  = a network
+2 | 01 | 0 1 | 0-1:0 = a network
+16 | 00 00 00 00 00 00 00 00 00 00 00 00 00 00 00 00 | 1024*15 |  = a network
 17 | | 1025*0 |  = more than 16 of a part
-0 | 0-0 0-0 0-0 0-0 0-0 0-0 0-0 0-0 0-0 0-0 0-0 0-0 0-0 0-0 0-0 0-0 0-0 | |  = more than 16 of a part
-1 | 0-1 | 1025*0 |  = more than 1024 of a part
-2 | 0-1 0-2 2-0 | 2 |  = an end of kind 1 is no role
-2 | 0-1 2-0 | |  = an end of kind 1 is no role
-2 | 0-1 | 0 2 3 | 0-3:0 = the role of process 1 is none
-2 | 0-1 | 0 1 | 0-1:0 1-1:1 0-0:0 = edge 1 names no process or no kind
-2 | 0-1 | 0 1 | 2-1:0 = edge 0 names no process or no kind
-2 | 0-1 | 0 1 | 0-0:0 0-2:0 = edge 1 names no process or no kind
-1 | 0-0 | 0 0 | 0-1:0 1-0:0 1-1:0 = edge 2 joins a process with itself
-1 | 0-0 | 0 0 0 | 0-1:0 1-2:0 1-0:0 0-1:0 = edge 2 joins the processes of an earlier one
-1 | 0-0 | 0 0 | 0-1:0 0-1:0 = edge 1 joins the processes of an earlier one
-2 | 0-1 | 0 1 | 1-0:0 0-1:0 = edge 1 joins the processes of an earlier one
-2 | 0-1 1-0 | 0 1 1 | 0-1:0 2-0:0 1-2:1 = edge 1 has processes of other roles than its kind
-2 | 0-1 1-0 | 0 1 1 | 0-1:0 2-0:1 1-2:1 = edge 2 has processes of other roles than its kind
-2 | 0-0 1-1 | 40*0 | 5-0:0 1-5:0 5-2:0 3-5:0 5-4:0 6-5:0 5-7:0 8-5:0 5-9:0 10-5:0 5-11:0 12-5:0 5-13:0 14-5:0 5-15:0 16-5:0 5-17:0 18-5:0 5-19:0 20-5:0 5-21:0 22-5:0 5-23:0 24-5:0 5-25:0 26-5:0 5-27:0 28-5:0 5-29:0 30-5:0 5-31:0 32-5:0 = a network
-2 | 0-0 1-1 | 40*0 | 5-0:0 1-5:0 5-2:0 3-5:0 5-4:0 6-5:0 5-7:0 8-5:0 5-9:0 10-5:0 5-11:0 12-5:0 5-13:0 14-5:0 5-15:0 16-5:0 5-17:0 18-5:0 5-19:0 20-5:0 5-21:0 22-5:0 5-23:0 24-5:0 5-25:0 26-5:0 5-27:0 28-5:0 5-29:0 30-5:0 5-31:0 32-5:0 5-33:0 = process 5 has more than 32 neighbours
-2 | 0-0 1-1 | 40*0 | 5-0:0 1-5:0 5-2:0 3-5:0 5-4:0 6-5:0 5-7:0 8-5:0 5-9:0 10-5:0 5-11:0 12-5:0 5-13:0 14-5:0 5-15:0 16-5:0 5-17:0 18-5:0 5-19:0 20-5:0 5-21:0 22-5:0 5-23:0 24-5:0 5-25:0 26-5:0 5-27:0 28-5:0 5-29:0 30-5:0 5-31:0 32-5:0 5-33:1 = edge 32 has processes of other roles than its kind";
+0 | 00 00 00 00 00 00 00 00 00 00 00 00 00 00 00 00 00 | |  = more than 16 of a part
+1 | 01 | 1025*0 |  = more than 1024 of a part
+2 | 01 02 20 | 2 |  = an end of kind 1 is no role
+2 | 01 20 | |  = an end of kind 1 is no role
+2 | 01 | 0 2 3 | 0-3:0 = the role of process 1 is none
+2 | 01 | 0 1 | 0-1:0 1-1:1 0-0:0 = edge 1 names no process or no kind
+2 | 01 | 0 1 | 2-1:0 = edge 0 names no process or no kind
+2 | 01 | 0 1 | 0-0:0 0-2:0 = edge 1 names no process or no kind
+1 | 00 | 0 0 | 0-1:0 1-0:0 1-1:0 = edge 2 joins a process with itself
+1 | 00 | 0 0 0 | 0-1:0 1-2:0 1-0:0 0-1:0 = edge 2 joins the processes of an earlier one
+1 | 00 | 0 0 | 0-1:0 0-1:0 = edge 1 joins the processes of an earlier one
+2 | 01 | 0 1 | 1-0:0 0-1:0 = edge 1 joins the processes of an earlier one
+2 | 01 10 | 0 1 1 | 0-1:0 2-0:0 1-2:1 = edge 1 has processes of other roles than its kind
+2 | 01 10 | 0 1 1 | 0-1:0 2-0:1 1-2:1 = edge 2 has processes of other roles than its kind
+2 | 00 11 | 40*0 | 5-0:0 1-5:0 5-2:0 3-5:0 5-4:0 6-5:0 5-7:0 8-5:0 5-9:0 10-5:0 5-11:0 12-5:0 5-13:0 14-5:0 5-15:0 16-5:0 5-17:0 18-5:0 5-19:0 20-5:0 5-21:0 22-5:0 5-23:0 24-5:0 5-25:0 26-5:0 5-27:0 28-5:0 5-29:0 30-5:0 5-31:0 32-5:0 = a network
+2 | 00 11 | 40*0 | 5-0:0 1-5:0 5-2:0 3-5:0 5-4:0 6-5:0 5-7:0 8-5:0 5-9:0 10-5:0 5-11:0 12-5:0 5-13:0 14-5:0 5-15:0 16-5:0 5-17:0 18-5:0 5-19:0 20-5:0 5-21:0 22-5:0 5-23:0 24-5:0 5-25:0 26-5:0 5-27:0 28-5:0 5-29:0 30-5:0 5-31:0 32-5:0 5-33:0 = process 5 has more than 32 neighbours
+2 | 00 11 | 40*0 | 5-0:0 1-5:0 5-2:0 3-5:0 5-4:0 6-5:0 5-7:0 8-5:0 5-9:0 10-5:0 5-11:0 12-5:0 5-13:0 14-5:0 5-15:0 16-5:0 5-17:0 18-5:0 5-19:0 20-5:0 5-21:0 22-5:0 5-23:0 24-5:0 5-25:0 26-5:0 5-27:0 28-5:0 5-29:0 30-5:0 5-31:0 32-5:0 5-33:1 = edge 32 has processes of other roles than its kind";
 
-/// Rings of three philosophers, the second with its edges out of order, a pair beside two who are alone, and a process with 32 neighbours.
-/// Of each process the neighbours, as number, edge and own side, and then its plan.
+/// Rings of three philosophers, the second with its edges out of order, and a pair beside two who are alone.
+/// Of each process the neighbours, and then its plan.
 const NEIGHBOURS: &str =
-    "1 | 0-0 | 3*0 | 0-1:0 1-2:0 2-0:0 = 1/0/A 2/2/B [0, 1, 2]; 0/0/B 2/1/A [0, 1, 2]; 0/2/A 1/1/B [0, 1, 2];
-1 | 0-0 | 3*0 | 2-0:0 1-2:0 0-1:0 = 1/2/A 2/0/B [0, 1, 2]; 0/2/B 2/1/A [0, 1, 2]; 0/0/A 1/1/B [0, 1, 2];
-1 | 0-0 | 4*0 | 3-0:0 = 3/0/B [0, 3]; [1]; [2]; 0/0/A [0, 3]; ";
+    "1 | 00 | 3*0 | 0-1:0 1-2:0 2-0:0 = [Beside { process: 1, edge: 0, side: A }, Beside { process: 2, edge: 2, side: B }] [0, 1, 2]; [Beside { process: 0, edge: 0, side: B }, Beside { process: 2, edge: 1, side: A }] [0, 1, 2]; [Beside { process: 0, edge: 2, side: A }, Beside { process: 1, edge: 1, side: B }] [0, 1, 2];
+1 | 00 | 3*0 | 2-0:0 1-2:0 0-1:0 = [Beside { process: 1, edge: 2, side: A }, Beside { process: 2, edge: 0, side: B }] [0, 1, 2]; [Beside { process: 0, edge: 2, side: B }, Beside { process: 2, edge: 1, side: A }] [0, 1, 2]; [Beside { process: 0, edge: 0, side: A }, Beside { process: 1, edge: 1, side: B }] [0, 1, 2];
+1 | 00 | 4*0 | 3-0:0 = [Beside { process: 3, edge: 0, side: B }] [0, 3]; [] [1]; [] [2]; [Beside { process: 0, edge: 0, side: A }] [0, 3];";
 
 fn roles(alloc: Global, count: &str) -> Result<Vec<Role>, Fail> {
     let mut roles = Vec::new(alloc);
-    for _ in 0..count.trim().parse::<u32>()? {
+    for _ in 0..number(count) {
         roles.push(role(alloc, LAMP)?)?;
     }
     Ok(roles)
 }
 
-fn ends(alloc: Global, kinds: &str) -> Result<Vec<(u8, u8)>, Fail> {
-    let mut ends = Vec::new(alloc);
-    for kind in kinds.split_whitespace() {
-        let (a, b) = kind.split_once('-').ok_or("a kind")?;
-        ends.push((a.parse::<u8>()?, b.parse::<u8>()?))?;
-    }
-    Ok(ends)
-}
-
 /// What `make` answers to the parts.
 fn made(alloc: Global, parts: &str) -> Result<Result<Network, NetworkFault>, Fail> {
-    let (count, rest) = parts.split_once('|').ok_or("roles")?;
-    let (kinds, rest) = rest.split_once('|').ok_or("kinds")?;
-    let (groups, joins) = rest.split_once('|').ok_or("processes")?;
+    let (count, rest) = cut(parts, "|");
+    let (kinds, rest) = cut(rest, "|");
+    let (groups, joins) = cut(rest, "|");
     let edges = edges(alloc, joins)?;
-    let (roles, ends) = (roles(alloc, count)?, ends(alloc, kinds)?);
+    let (roles, ends) = (roles(alloc, count)?, labels(alloc, kinds)?);
     let processes = processes(alloc, groups)?;
     Ok(Network::make(alloc, roles, ends, processes, edges))
 }
@@ -79,21 +68,12 @@ fn refuses_the_first_fault(rt: HostRuntime) -> Result<(), Fail> {
     expect(&rt, rt.alloc(), FAULTS, fault_told)
 }
 
-fn push_around(alloc: Global, text: &mut String, network: &Network, k: u32) -> Result<(), Fail>
-    requires { k < length network.now.processes }
-{
-    for b in network.neighbours(k) {
-        text.push_str(&format!(in alloc; "{}/{}/{:?} ", b.process, b.edge, b.side)?)?;
-    }
-    text.push_str(&format!(in alloc; "{:?}; ", network.lock_plan(k))?)?;
-    Ok(())
-}
-
 fn neighbours_told(alloc: Global, parts: &str) -> Result<String, Fail> {
     let network = made(alloc, parts)??.copy(alloc)?;
     let mut text = String::new(alloc);
     for k in 0..network.processes().len() {
-        push_around(alloc, &mut text, &network, k as u32)?;
+        let (beside, plan) = (network.neighbours(k as u32), network.lock_plan(k as u32));
+        text.push_str(&format!(in alloc; "{beside:?} {plan:?}; ")?)?;
     }
     Ok(text)
 }
@@ -104,7 +84,7 @@ fn lists_neighbours_and_plans(rt: HostRuntime) -> Result<(), Fail> {
 }
 
 fn parts_told(alloc: Global) -> Result<String, Fail> {
-    let network = made(alloc, "2 | 0-1 0-0 | 0 1 0 | 0-1:0 2-0:1")??;
+    let network = made(alloc, "2 | 01 00 | 0 1 0 | 0-1:0 2-0:1")??;
     let counts = [network.roles().len(), network.processes().len()];
     Ok(format!(in alloc; "{counts:?} {:?} {:?}", network.ends(), network.edges())?)
 }

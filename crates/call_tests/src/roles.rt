@@ -2,6 +2,7 @@
 
 use crate::table::expect;
 use pair_structure::{LocalArc, Name, Role};
+use samples::{byte, cut};
 use std::alloc::Global;
 use std::test::Fail;
 
@@ -35,8 +36,8 @@ fn arcs(alloc: Global, spelled: &str) -> Result<Vec<LocalArc>, Fail> {
     let mut arcs = Vec::new(alloc);
     for word in spelled.split_whitespace() {
         let (count, ends) = word.split_once('*').unwrap_or(("1", word));
-        let ends = ends.parse::<u8>()?;
-        for _ in 0..count.parse::<u8>()? {
+        let ends = byte(ends);
+        for _ in 0..byte(count) {
             arcs.push(LocalArc {
                 from: ends / 10,
                 to: ends % 10,
@@ -54,10 +55,10 @@ fn role_text(alloc: Global, role: &Role) -> Result<String, Fail> {
 
 /// The copy of the role with these parts, or their first fault.
 fn role_told(alloc: Global, parts: &str) -> Result<String, Fail> {
-    let (names, rest) = parts.split_once('|').ok_or("locals")?;
-    let (start, ends) = rest.split_once('|').ok_or("a start")?;
+    let (names, rest) = cut(parts, "|");
+    let (start, ends) = cut(rest, "|");
     let name = Name::make(alloc, "phil")?;
-    let start = start.trim().parse::<u8>()?;
+    let start = byte(start);
     match Role::make(name, locals(alloc, names)?, start, arcs(alloc, ends)?) {
         Ok(role) => role_text(alloc, &role.copy(alloc)?),
         Err(fault) => Ok(format!(in alloc; "{fault}")?),

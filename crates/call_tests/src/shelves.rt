@@ -4,6 +4,7 @@ ghost use Rattle.std.specs.Prelude.{◌≡◌, []};
 
 use crate::table::agree;
 use edge_io::{FileShelf, MemoryShelf, MemorySink, OutSink, Shelf, ShelfFault, Sink};
+use samples::{cut, long};
 use std::alloc::Global;
 use std::rt::Files;
 use std::test::Fail;
@@ -40,7 +41,7 @@ empty 0 = Ok(())
 fn memory_shelf(alloc: Global) -> Result<MemoryShelf, Fail> {
     let mut files = Vec::new(alloc);
     for word in "spec:three empty: spec:other".split(' ') {
-        let (name, bytes) = word.split_once(':').ok_or("a file")?;
+        let (name, bytes) = cut(word, ":");
         let bytes = Vec::from_slice(alloc, bytes.as_bytes())?;
         files.push((String::from_str(alloc, name)?, bytes))?;
     }
@@ -52,9 +53,9 @@ fn shelf_told(alloc: Global) -> Result<String, Fail> {
     let mut shelf = memory_shelf(alloc)?;
     let mut text = String::new(alloc);
     for row in TAKEN.lines() {
-        let (asked, _) = row.split_once(" =").ok_or("a row")?;
-        let (name, max) = asked.split_once(' ').ok_or("a name")?;
-        let answer = taken(alloc, &mut shelf, name, max.parse::<u64>()?)?;
+        let (asked, _) = cut(row, " =");
+        let (name, max) = cut(asked, " ");
+        let answer = taken(alloc, &mut shelf, name, long(max))?;
         text.push_str(&format!(in alloc; "{asked} = {}\n", answer.trim())?)?;
     }
     Ok(text)

@@ -5,7 +5,7 @@ ghost use Rattle.skeleton_extract.specs.Commands.{HasLists};
 
 use crate::table::{agree, expect};
 use pair_structure::{Name, Role, Side};
-use samples::{BOUND, FIRST, FOUR, role, structure, to_slashes};
+use samples::{BOUND, FIRST, FOUR, byte, cut, long, number, role, structure, to_slashes};
 use skeleton_extract::{Skeleton, extract, write_skeleton};
 use std::alloc::Global;
 use std::test::Fail;
@@ -56,11 +56,10 @@ fn chosen(alloc: Global, arc: u32, other: u8, x: u64, pick: u64) -> Result<Strin
 }
 
 fn choice_told(alloc: Global, asked: &str) -> Result<String, Fail> {
-    let (arc, rest) = asked.split_once(' ').ok_or("an arc")?;
-    let (other, rest) = rest.split_once(' ').ok_or("a local state")?;
-    let (x, pick) = rest.split_once(' ').ok_or("a value")?;
-    let (arc, other) = (arc.parse::<u32>()?, other.parse::<u8>()?);
-    chosen(alloc, arc, other, x.parse::<u64>()?, pick.parse::<u64>()?)
+    let (arc, rest) = cut(asked, " ");
+    let (other, rest) = cut(rest, " ");
+    let (x, pick) = cut(rest, " ");
+    chosen(alloc, number(arc), byte(other), long(x), long(pick))
 }
 
 #[test]

@@ -2,7 +2,7 @@
 
 use crate::table::expect;
 use ctl_text::{Spec, write_spec};
-use samples::{BOUND, pair, spec, to_slashes};
+use samples::{BOUND, cut, pair, spec, to_slashes};
 use std::alloc::Global;
 use std::test::Fail;
 
@@ -22,8 +22,8 @@ fn written(alloc: Global, spec: &Spec) -> Result<String, Fail> {
 /// What is written between the head and `done`, where the text is read again and so written again.
 fn canonical(alloc: Global, spec: &Spec) -> Result<String, Fail> {
     let text = written(alloc, spec)?;
-    let body = text.as_str().strip_prefix("pairs 1/").ok_or("a head")?;
-    let body = body.strip_suffix("done/").ok_or("an end")?;
+    let body = cut(text.as_str(), "/").1;
+    let body = body.strip_suffix("done/").unwrap_or("");
     let again = written(alloc, &samples::spec(alloc, body)?)?;
     if again.as_str() != text.as_str() {
         return Err(Fail::from("not written again"));
@@ -66,9 +66,8 @@ E[a.N W b.T]&true = (E[a.N W b.T] & true)";
 
 fn formula_told(alloc: Global, text: &str) -> Result<String, Fail> {
     let whole = canonical(alloc, &pair(alloc, BOUND, text)?)?;
-    let (_, clause) = whole.as_str().split_once("require ").ok_or("a clause")?;
-    let (clause, _) = clause.split_once('/').ok_or("a line")?;
-    Ok(String::from_str(alloc, clause)?)
+    let clause = cut(whole.as_str(), "require ").1;
+    Ok(String::from_str(alloc, cut(clause, "/").0)?)
 }
 
 #[test]

@@ -2,7 +2,7 @@
 
 use crate::table::{agree, expect};
 use pair_structure::{PairStructure, Role, Side, arrange};
-use samples::{BOUND, FIRST, LAMP, labels, moves, role, structure};
+use samples::{BOUND, FIRST, LAMP, cut, labels, moves, role, structure};
 use std::alloc::Global;
 use std::test::Fail;
 
@@ -23,7 +23,7 @@ const STRUCTURES: &str = "00 10 20 | 0a1 1a2 2a0 = 3 states
 
 fn structure_told(alloc: Global, spelled: &str) -> Result<String, Fail> {
     let role = role(alloc, BOUND)?;
-    let (states, steps) = spelled.split_once('|').ok_or("a structure")?;
+    let (states, steps) = cut(spelled, "|");
     let states = labels(alloc, states)?;
     let moves = moves(alloc, steps)?;
     match PairStructure::make(alloc, &role, &role, &states, &moves) {

@@ -4,7 +4,7 @@ ghost use Rattle.conjunctive_compose.specs.Whole.{IsProper};
 
 use crate::table::{agree, expect};
 use conjunctive_compose::{System, Whole, Wish};
-use samples::{BOUND, FIRST, FOUR, LAMP, TURN, system};
+use samples::{BOUND, FIRST, FOUR, LAMP, TURN, cut, long, number, system};
 use std::alloc::Global;
 use std::test::Fail;
 
@@ -22,21 +22,21 @@ const PICKS: &str = "2*0 | 0-1:0 | 0/0/2 = Moved, [1, 0] [2]
 2*0 | 0-1:0 | 0/0/5 = Moved, [1, 0] [1]
 2*0 | 0-1:0 | 0/0/18446744073709551615 1/0/0 = Moved, Blocked { neighbour: 0 }, [1, 0] [3]";
 
-fn wish(spelled: &str) -> Result<Wish, Fail> {
-    let (process, rest) = spelled.split_once('/').ok_or("a wish")?;
-    let (arc, pick) = rest.split_once('/').ok_or("a wish")?;
-    Ok(Wish {
-        process: process.parse::<u32>()?,
-        arc: arc.parse::<u32>()?,
-        pick: pick.parse::<u64>()?,
-    })
+fn wish(spelled: &str) -> Wish {
+    let (process, rest) = cut(spelled, "/");
+    let (arc, pick) = cut(rest, "/");
+    Wish {
+        process: number(process),
+        arc: number(arc),
+        pick: long(pick),
+    }
 }
 
 fn answers(alloc: Global, system: &System, wishes: &str) -> Result<String, Fail> {
     let mut w = system.start(alloc)?;
     let mut text = String::new(alloc);
     for word in wishes.split_whitespace() {
-        let wish = wish(word)?;
+        let wish = wish(word);
         if !system.fits(wish) {
             return Err(Fail::from("no such arc"));
         }
@@ -49,8 +49,8 @@ fn answers(alloc: Global, system: &System, wishes: &str) -> Result<String, Fail>
 }
 
 fn told(alloc: Global, lines: &str, spelled: &str, asked: &str) -> Result<String, Fail> {
-    let (groups, rest) = asked.split_once('|').ok_or("processes")?;
-    let (joins, wishes) = rest.split_once('|').ok_or("edges")?;
+    let (groups, rest) = cut(asked, "|");
+    let (joins, wishes) = cut(rest, "|");
     let system = system(alloc, lines, spelled, groups, joins)?;
     answers(alloc, &system, wishes)
 }
@@ -124,7 +124,7 @@ fn pair_told(alloc: Global, system: &System, w: &Whole) -> Result<String, Fail>
 fn pairs_told(alloc: Global) -> Result<String, Fail> {
     let system = system(alloc, LAMP, TURN, "2*0", "0-1:0")?;
     let mut w = system.start(alloc)?;
-    let wish = wish("1/0/0")?;
+    let wish = wish("1/0/0");
     if !system.fits(wish) {
         return Err(Fail::from("no such arc"));
     }

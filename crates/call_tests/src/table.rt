@@ -1,5 +1,6 @@
 //! Tables: each row is a question, ` = ` and the answer; and single answers. Spaces around an answer do not count.
 
+use samples::cut;
 use std::alloc::Global;
 use std::process::Abort;
 use std::test::Fail;
@@ -21,7 +22,7 @@ pub(crate) fn expect<F: Fn(Global, &str) -> Result<String, Fail>>(
     requires { F.IsAlwaysCallable told }
 {
     for row in rows.lines() {
-        let (question, answer) = row.split_once(" =").ok_or("a row")?;
+        let (question, answer) = cut(row, " =");
         let text = told(alloc, question)?;
         assert_eq!(rt; text.as_str().trim(), answer.trim(), "{question}");
     }

@@ -2,6 +2,7 @@
 
 ghost use Rattle.std.specs.Prelude.{◌≤◌, length, IfOk};
 
+use crate::words::{byte, cut, number};
 use interconnection::{Edge, Process};
 use pair_structure::Name;
 use std::alloc::Global;
@@ -12,8 +13,8 @@ pub fn processes(alloc: Global, groups: &str) -> Result<Vec<Process>, Fail> {
     let mut processes = Vec::new(alloc);
     for group in groups.split_whitespace() {
         let (count, role) = group.split_once('*').unwrap_or(("1", group));
-        let role = role.parse::<u8>()?;
-        for _ in 0..count.parse::<u32>()? {
+        let role = byte(role);
+        for _ in 0..number(count) {
             let name = Name::make(alloc, "p")?;
             processes.push(Process { name, role })?;
         }
@@ -27,7 +28,7 @@ pub fn edges(alloc: Global, joins: &str) -> Result<Vec<Edge>, Fail>
 {
     let mut edges = Vec::new(alloc);
     for join in joins.split_whitespace() {
-        edges.push(edge(join)?)?;
+        edges.push(edge(join))?;
     }
     if edges.len() > 1000 {
         return Err(Fail::from("many edges"));
@@ -35,12 +36,12 @@ pub fn edges(alloc: Global, joins: &str) -> Result<Vec<Edge>, Fail>
     Ok(edges)
 }
 
-fn edge(join: &str) -> Result<Edge, Fail> {
-    let (pair, kind) = join.split_once(':').ok_or("an edge")?;
-    let (a, b) = pair.split_once('-').ok_or("an edge")?;
-    Ok(Edge {
-        a: a.parse::<u32>()?,
-        b: b.parse::<u32>()?,
-        kind: kind.parse::<u8>()?,
-    })
+fn edge(join: &str) -> Edge {
+    let (pair, kind) = cut(join, ":");
+    let (a, b) = cut(pair, "-");
+    Edge {
+        a: number(a),
+        b: number(b),
+        kind: byte(kind),
+    }
 }

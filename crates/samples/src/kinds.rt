@@ -2,6 +2,7 @@
 //! semicolons.
 
 use crate::texts::to_lines;
+use crate::words::cut;
 use closure_sets::Closure;
 use ctl_form::{Formula, Normal, whole};
 use ctl_text::{Spec, read_spec};
@@ -29,8 +30,7 @@ pub fn first_role(spec: &Spec) -> Result<&Role, Fail> {
 
 /// The specification of one kind `k` with these clauses, of which both sides are this role.
 pub fn pair(alloc: Global, role: &str, clauses: &str) -> Result<Spec, Fail> {
-    let (name, _) = role.split_once('/').ok_or("a role")?;
-    let name = name.strip_prefix("role ").ok_or("a role")?;
+    let name = cut(cut(role, "/").0, " ").1;
     let mut lines = format!(in alloc; "{role}kind k {name} {name}/")?;
     for clause in clauses.split_terminator(';') {
         lines.push_str("require ")?;

@@ -7,6 +7,7 @@ mod kinds;
 mod structures;
 mod systems;
 mod texts;
+mod words;
 
 pub use graphs::{edges, processes};
 pub use kinds::{closure, conjuncts, first_role, formula, normal, pair, role, spec};
@@ -15,3 +16,4 @@ pub use systems::system;
 pub use texts::{
     BOUND, FAIR, FIRST, FOUR, LAMP, LAST, PHIL, PRIOR, TURN, UNBARRED, to_lines, to_slashes,
 };
+pub use words::{byte, cut, long, number};

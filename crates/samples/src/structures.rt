@@ -3,6 +3,7 @@
 ghost use Rattle.std.specs.Prelude.{IfOk};
 ghost use Rattle.pair_structure.specs.Structure.{IsOver};
 
+use crate::words::cut;
 use pair_structure::{Move, PairStructure, Role, Side};
 use std::alloc::Global;
 use std::test::Fail;
@@ -11,7 +12,7 @@ use std::test::Fail;
 pub fn structure(alloc: Global, a: &Role, b: &Role, spelled: &str) -> Result<PairStructure, Fail>
     ensures { IfOk result (IsOver a.now b.now) }
 {
-    let (states, steps) = spelled.split_once('|').ok_or("a structure")?;
+    let (states, steps) = cut(spelled, "|");
     let states = labels(alloc, states)?;
     let moves = moves(alloc, steps)?;
     let m = PairStructure::make(alloc, a, b, &states, &moves)?;

@@ -12,7 +12,6 @@ use std::alloc::Global;
 use std::test::Fail;
 
 /// The system of these processes and edges, whose role and structure are spelled so.
-#[tactic(auto, using(crate::proofs::Systems::one_structure))]
 pub fn system(
     alloc: Global,
     lines: &str,
