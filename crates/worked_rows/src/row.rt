@@ -1,7 +1,7 @@
 //! The lines of the file `rows`.
 
 /// `WORDS ; STATUS ; ANSWER`: words of a call, the status that it ends with, and what it writes.
-#[derive(Clone, Copy, Debug)]
+#[derive(Clone, Copy)]
 pub struct Row<'a> {
     pub words: &'a str,
     pub status: u8,
@@ -9,7 +9,7 @@ pub struct Row<'a> {
 }
 
 /// What a line is.
-#[derive(Clone, Copy, Debug)]
+#[derive(Clone, Copy)]
 pub enum Line<'a> {
     /// Blank, or a comment.
     Nothing,
