@@ -63,7 +63,7 @@ class Texts(unittest.TestCase):
             self.assertEqual((status, text), (0, "solves\n"))
 
     def test_help(self):
-        for name in ("picture", "make_pictures", "why", "guarded", "promela", "certificate"):
+        for name in ("picture", "make_pictures", "why", "guarded", "promela", "certificate", "mend"):
             self.assertIn("usage", tool(name, "--help"))
 
 
@@ -223,6 +223,27 @@ class Certificates(unittest.TestCase):
         path = in_room("cycle.pairs", spec_text(spec))
         self.assertIn("at the start", tool("certificate", path, SOLVED["handshake"][1], status=4))
         self.assertEqual(verdict(spec, read_solution(SOLVED["handshake"][1]), "certificate 1\ndone\n"), "no-peel")
+
+
+class Mended(unittest.TestCase):
+    def test_accepted(self):
+        for name in ("drinkers", "grid", "allocator", "lights"):
+            path = in_room(f"{name}_mended.pairs", tool("mend", example(f"{name}.pairs")))
+            status, text = call("synth", read_text(path))
+            self.assertEqual(status, 0)
+            solution = in_room(f"{name}_mended.solution", text)
+            self.assertEqual(call("prove", read_text(SOLVED[name][0]), text), (0, "solves\n"))
+            spec, found = read_spec(path), read_solution(solution)
+            self.assertEqual(verdict(spec, found, tool("certificate", path, solution)), "accepted")
+        spec = read_spec(os.path.join(ROOM.name, "drinkers_mended.pairs"))
+        spec.processes = {name: "drinker" for name in ("ann", "bob", "cyd")}
+        spec.edges = [("ann", "bob", "bottle"), ("bob", "cyd", "bottle"), ("cyd", "ann", "bottle")]
+        solution = read_solution(os.path.join(ROOM.name, "drinkers_mended.solution"))
+        self.assertEqual(whole_states(spec, solution)[1], [])
+
+    def test_none(self):
+        self.assertIn("writer in WAIT: yield", tool("mend", example("priority.pairs"), status=3))
+        self.assertIn("producer in WAIT: yield", tool("mend", example("buffer.pairs"), status=3))
 
 
 if __name__ == "__main__":
