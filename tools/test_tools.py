@@ -165,8 +165,10 @@ class Promela(unittest.TestCase):
                 subprocess.run(["spin", "-a", "m.pml"], **run)
                 subprocess.run(["cc", "-O1", "-w", "-DSAFETY", "-o", "pan", "pan.c"], **run)
                 told = subprocess.run(["./pan", "-E", "-m1000000"], **run).stdout
-            states, _ = whole_states(read_spec(SOLVED[name][0]), read_solution(SOLVED[name][1]))
+                ends = subprocess.run(["./pan", "-m1000000"], **run).stdout
+            states, stuck = whole_states(read_spec(SOLVED[name][0]), read_solution(SOLVED[name][1]))
             self.assertEqual(int(re.search(r"(\d+) states, stored", told)[1]), len(states), name)
+            self.assertEqual("errors: 1" in ends, bool(stuck), name)
 
 
 class Certificates(unittest.TestCase):
