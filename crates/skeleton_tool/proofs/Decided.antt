@@ -1,29 +1,64 @@
--- Where nothing hinders it, `synth` ends with 0, 3 or 8.
-use Rattle.std.proofs.Common.{ℕ, ◌≡◌, ◌⊎◌, ◌∙◌, inl, inr, Option, Some, None, List, IfSome, sym, subst, ap, refl}
-use Rattle.edge_io.specs.Counts.{Rose}
-use Rattle.edge_io.specs.Told.{file_named}
-use Rattle.ctl_text.specs.Text.{IsSpecText}
+-- Where nothing hinders a command, it ends with a status that its files decide, or for want of memory.
+use Rattle.std.proofs.Common.{ℕ, ◌≡◌, ◌⊎◌, ◌∙◌, inl, inr, List, sym, subst, ap, refl}
+use Rattle.pair_structure.specs.Structure.{Structure}
+use Rattle.conjunctive_compose.specs.declared.wish.Wish.{Wish}
+use Rattle.conjunctive_compose.specs.System.{SystemParts}
+use Rattle.firing_journal.specs.declared.journal.Entry.{Entry}
+use Rattle.firing_journal.specs.Journal.{wishes_of}
+use Rattle.ctl_form.specs.Kind.{Solves}
 use Rattle.ctl_text.specs.Value.{SpecParts}
 use Rattle.skeleton_tool.specs.declared.status.Status.{Status}
 use Rattle.skeleton_tool.specs.declared.status.Status.TheVariants.{Done, Usage, Refused, Unsatisfiable, Fails, ReadFault, WriteFault, OutOfMemory}
-use Rattle.skeleton_tool.specs.Answer.{SinkSeen, IsSpecRead, NoSpec, AnswersKinds, AnswersSynth, AnswersCommand, IsAnswer, IsOutcome, IsPlanned}
-use Rattle.skeleton_tool.specs.Command.{Command, synth, command_of, spec_limit}
-use Rattle.skeleton_tool.specs.Complete.{IsUnhindered, DecidesSpec, DecidesSynth}
+use Rattle.skeleton_tool.specs.Answer.{SinkSeen, AnswersBoth, AnswersKinds, AnswersCommand, IsOutcome, IsPlanned, Proves, spec_grammar, solution_grammar}
+use Rattle.skeleton_tool.specs.Command.{Command, synth, prove, skel, replay}
+use Rattle.skeleton_tool.specs.Complete.{Decides, IsUnhindered, DecidesSpec, DecidesSynth, DecidesSolution, DecidesProve, DecidesSkel, DecidesRun, DecidesReplay}
+use Rattle.skeleton_tool.specs.Reading.{Grammar, IsTold, IsUnread, ReadsAndAnswers}
+use Rattle.skeleton_tool.specs.Replay.{AnswersJournal, IsSystemOf, Replays, ReplaysWishes, journal_grammar}
+use Rattle.skeleton_tool.specs.Skel.{Skels}
 use Rattle.skeleton_tool.specs.Status.{code_of}
-use Rattle.skeleton_tool.specs.Taking.{Files, ShelfSeen, IsUntaken}
+use Rattle.skeleton_tool.specs.Taking.{ShelfSeen, IsUntaken}
+use Rattle.skeleton_tool.proofs.OneSystem.{one_system}
+use Rattle.skeleton_tool.proofs.Solved.{never_fails}
+use Rattle.skeleton_tool.proofs.Told.{answers_command, both_told, never_bad, reads_told}
 
-some_same : {A : Type 0} (x y : A) → Some x ≡ Some y → x ≡ y
-some_same x y e = cc
+never_untaken : (words : List (List ℕ)) (shelf : ShelfSeen) (sink : SinkSeen) (command : Command) (all : List (List ℕ × List ℕ)) (word file : List ℕ) (max : ℕ) (status : Status) (text : List ℕ) → IsUnhindered words shelf sink command all → IsUntaken shelf word file max status text → ⊥
+never_untaken words shelf sink command all word file max Refused text free h = free.none_long h.0.counted
+never_untaken words shelf sink command all word file max ReadFault text free h = free.no_fault h.0
+never_untaken words shelf sink command all word file max Done text free h = h
+never_untaken words shelf sink command all word file max Usage text free h = h
+never_untaken words shelf sink command all word file max Unsatisfiable text free h = h
+never_untaken words shelf sink command all word file max Fails text free h = h
+never_untaken words shelf sink command all word file max WriteFault text free h = h
+never_untaken words shelf sink command all word file max OutOfMemory text free h = h
 
--- what is told of a file is one list of bytes
-told_bytes : (files : Files) (all : List (List ℕ × List ℕ)) (file bytes given : List ℕ) → files ≡ Some all → file_named all file ≡ Some bytes → IfSome files (λ every. file_named every file ≡ Some given) → given ≡ bytes
-told_bytes files all file bytes given told has is = some_same given bytes (sym (rw told at is) ∙ has)
+-- where nothing hinders it, a told file that is a text of a value is read
+never_unread : {V : Type 0} (grammar : Grammar V) (words : List (List ℕ)) (shelf : ShelfSeen) (sink : SinkSeen) (command : Command) (all : List (List ℕ × List ℕ)) (file : List ℕ) (v : V) (status : Status) (text : List ℕ) → IsUnhindered words shelf sink command all → IsTold grammar all file v → IsUnread grammar shelf file status text → ⊥
+never_unread grammar words shelf sink command all file v status text free told (inl h) = never_untaken words shelf sink command all grammar.word file grammar.limit status text free h
+never_unread grammar words shelf sink command all file v status text free told (inr h) = never_bad grammar shelf.files all file v text free.told told h.1
 
--- what is read of the file is the specification that its bytes are a text of
-read_same : (words : List (List ℕ)) (shelf : ShelfSeen) (sink : SinkSeen) (v w : SpecParts) (free : IsUnhindered words shelf sink v) → IsSpecRead shelf.files free.file w → w ≡ v
-read_same words shelf sink v w free read =
-    let same : read.bytes ≡ free.bytes = told_bytes shelf.files free.files free.file free.bytes read.bytes free.told free.has read.given.told in
-    read.only v (subst (λ bytes. IsSpecText bytes v) (sym same) free.text)
+unhindered_both : (answers : SpecParts → List Structure → Status → List ℕ → Type 0) (words : List (List ℕ)) (shelf : ShelfSeen) (sink : SinkSeen) (command : Command) (all : List (List ℕ × List ℕ)) (spec sol : List ℕ) (v : SpecParts) (structures : List Structure) (status : Status) (text : List ℕ)
+    → IsUnhindered words shelf sink command all → IsTold spec_grammar all spec v → IsTold (solution_grammar v) all sol structures → AnswersBoth answers shelf spec sol status text → answers v structures status text
+unhindered_both answers words shelf sink command all spec sol v structures status text free spec_is sol_is h =
+    both_told answers shelf all spec sol v structures status text free.told (never_unread spec_grammar words shelf sink command all spec v status text free spec_is) (never_unread (solution_grammar v) words shelf sink command all sol structures status text free sol_is) spec_is sol_is h
+
+-- a call that nothing hinders answers its command, or memory ran out
+answered : (words : List (List ℕ)) (shelf : ShelfSeen) (sink : SinkSeen) (command : Command) (all : List (List ℕ × List ℕ)) (status : Status) → IsUnhindered words shelf sink command all → IsOutcome words shelf sink status → (status ≡ OutOfMemory) ⊎ ((text : List ℕ) × AnswersCommand shelf command status text)
+answered words shelf sink command all WriteFault free (other, text, answer, rose, prefix) = absurd (free.written rose)
+answered words shelf sink command all OutOfMemory free h = inl refl
+answered words shelf sink command all Done free h = inr (h.0, answers_command words shelf Done h.0 command free.command_is h.1)
+answered words shelf sink command all Usage free h = inr (h.0, answers_command words shelf Usage h.0 command free.command_is h.1)
+answered words shelf sink command all Refused free h = inr (h.0, answers_command words shelf Refused h.0 command free.command_is h.1)
+answered words shelf sink command all Unsatisfiable free h = inr (h.0, answers_command words shelf Unsatisfiable h.0 command free.command_is h.1)
+answered words shelf sink command all Fails free h = inr (h.0, answers_command words shelf Fails h.0 command free.command_is h.1)
+answered words shelf sink command all ReadFault free h = inr (h.0, answers_command words shelf ReadFault h.0 command free.command_is h.1)
+
+-- what follows from each answer to the command follows from the outcome
+decided : (words : List (List ℕ)) (shelf : ShelfSeen) (sink : SinkSeen) (command : Command) (all : List (List ℕ × List ℕ)) (IsSo : ℕ → Type 0) (code : ℕ) → IsUnhindered words shelf sink command all → IsSo 8 → ((status : Status) (text : List ℕ) → AnswersCommand shelf command status text → IsSo (code_of status)) → IsPlanned words shelf sink code → IsSo code
+decided words shelf sink command all IsSo code free memory each (status, is, outcome) =
+    elim (answered words shelf sink command all status free outcome) [
+      | inl out ↦ subst IsSo (sym (is ∙ ap code_of out)) memory
+      | inr (text, answer) ↦ subst IsSo (sym is) (each status text answer)
+    ]
 
 decides_kinds : (v : SpecParts) (status : Status) (text : List ℕ) → AnswersKinds v.roles v.kinds status text → DecidesSpec v (code_of status)
 decides_kinds v Done text h = inr (inl (refl, (h.structures, h.solves)))
@@ -35,40 +70,69 @@ decides_kinds v ReadFault text h = absurd h
 decides_kinds v WriteFault text h = absurd h
 decides_kinds v OutOfMemory text h = absurd h
 
--- a specification is read where its bytes are a text and no count rose
-is_read : (words : List (List ℕ)) (shelf : ShelfSeen) (sink : SinkSeen) (v : SpecParts) (status : Status) (text : List ℕ) (free : IsUnhindered words shelf sink v) → NoSpec shelf free.file status text → ⊥
-is_read words shelf sink v Refused text free (inl h) = free.none_long h.0.counted
-is_read words shelf sink v ReadFault text free (inl h) = free.no_fault h.0
-is_read words shelf sink v Done text free (inl h) = h
-is_read words shelf sink v Usage text free (inl h) = h
-is_read words shelf sink v Unsatisfiable text free (inl h) = h
-is_read words shelf sink v Fails text free (inl h) = h
-is_read words shelf sink v WriteFault text free (inl h) = h
-is_read words shelf sink v OutOfMemory text free (inl h) = h
-is_read words shelf sink v status text free (inr h) =
-    let bad = h.1 in
-    let same : bad.bytes ≡ free.bytes = told_bytes shelf.files free.files free.file free.bytes bad.bytes free.told free.has bad.given.told in
-    bad.no_text v (subst (λ bytes. IsSpecText bytes v) (sym same) free.text)
+decides_synth : (words : List (List ℕ)) (shelf : ShelfSeen) (sink : SinkSeen) (code : ℕ) → IsPlanned words shelf sink code → DecidesSynth words shelf sink code
+decides_synth words shelf sink code planned files spec v free told =
+    decided words shelf sink (synth spec) files (DecidesSpec v) code free (inl refl) (λ status text h. decides_kinds v status text (reads_told spec_grammar (λ u. AnswersKinds u.roles u.kinds) shelf files spec v status text free.told (never_unread spec_grammar words shelf sink (synth spec) files spec v status text free told) told h)) planned
 
-decides_answer : (words : List (List ℕ)) (shelf : ShelfSeen) (sink : SinkSeen) (v : SpecParts) (status : Status) (text : List ℕ) (free : IsUnhindered words shelf sink v) → AnswersSynth shelf free.file status text → DecidesSpec v (code_of status)
-decides_answer words shelf sink v status text free (inl none) = absurd (is_read words shelf sink v status text free none)
-decides_answer words shelf sink v status text free (inr (w, read, answer)) =
-    decides_kinds v status text (subst (λ (u : SpecParts). AnswersKinds u.roles u.kinds status text) (read_same words shelf sink v w free read) answer)
+decides_solution : (v : SpecParts) (structures : List Structure) (status : Status) (text : List ℕ) → Proves v structures status text → DecidesSolution v structures (code_of status)
+decides_solution v structures Done text h = inr (inl (refl, h.0))
+decides_solution v structures Fails text h = inr (inr (refl, (h.0, h.1)))
+decides_solution v structures Usage text h = absurd h
+decides_solution v structures Refused text h = absurd h
+decides_solution v structures Unsatisfiable text h = absurd h
+decides_solution v structures ReadFault text h = absurd h
+decides_solution v structures WriteFault text h = absurd h
+decides_solution v structures OutOfMemory text h = absurd h
 
-decides_command : (words : List (List ℕ)) (shelf : ShelfSeen) (sink : SinkSeen) (v : SpecParts) (status : Status) (text : List ℕ) (command : Command) (free : IsUnhindered words shelf sink v) → command_of words ≡ Some command → AnswersCommand shelf command status text → DecidesSpec v (code_of status)
-decides_command words shelf sink v status text command free is answer =
-    let same : command ≡ synth free.file = some_same command (synth free.file) (sym is ∙ free.command) in
-    decides_answer words shelf sink v status text free (subst (λ c. AnswersCommand shelf c status text) same answer)
+decides_prove : (words : List (List ℕ)) (shelf : ShelfSeen) (sink : SinkSeen) (code : ℕ) → IsPlanned words shelf sink code → DecidesProve words shelf sink code
+decides_prove words shelf sink code planned files spec sol v structures free told sol_told =
+    decided words shelf sink (prove spec sol) files (DecidesSolution v structures) code free (inl refl) (λ status text h. decides_solution v structures status text (unhindered_both Proves words shelf sink (prove spec sol) files spec sol v structures status text free told sol_told h)) planned
 
-decides_outcome : (words : List (List ℕ)) (shelf : ShelfSeen) (sink : SinkSeen) (v : SpecParts) (status : Status) → IsUnhindered words shelf sink v → IsOutcome words shelf sink status → DecidesSpec v (code_of status)
-decides_outcome words shelf sink v Done free h = decides_command words shelf sink v Done h.0 h.1.0 free h.1.1 h.1.2
-decides_outcome words shelf sink v Unsatisfiable free h = decides_command words shelf sink v Unsatisfiable h.0 h.1.0 free h.1.1 h.1.2
-decides_outcome words shelf sink v Refused free h = decides_command words shelf sink v Refused h.0 h.1.0 free h.1.1 h.1.2
-decides_outcome words shelf sink v Fails free h = decides_command words shelf sink v Fails h.0 h.1.0 free h.1.1 h.1.2
-decides_outcome words shelf sink v ReadFault free h = decides_command words shelf sink v ReadFault h.0 h.1.0 free h.1.1 h.1.2
-decides_outcome words shelf sink v Usage free h = absurd (let e : None ≡ Some (synth free.file) = sym h.1.0 ∙ free.command in cc)
-decides_outcome words shelf sink v WriteFault free (other, text, answer, rose, prefix) = absurd (free.written rose)
-decides_outcome words shelf sink v OutOfMemory free h = inl refl
+shown : (v : SpecParts) (structures : List Structure) (status : Status) (text : List ℕ) → Solves v.roles v.kinds structures → Skels v structures status text → (code_of status ≡ 8) ⊎ (code_of status ≡ 0)
+shown v structures Done text solves h = inr refl
+shown v structures Fails text solves h = absurd (never_fails v.roles v.kinds structures h.0 solves h.1)
+shown v structures Usage text solves h = absurd h
+shown v structures Refused text solves h = absurd h
+shown v structures Unsatisfiable text solves h = absurd h
+shown v structures ReadFault text solves h = absurd h
+shown v structures WriteFault text solves h = absurd h
+shown v structures OutOfMemory text solves h = absurd h
 
-pub decides : (words : List (List ℕ)) (shelf : ShelfSeen) (sink : SinkSeen) (code : ℕ) → IsPlanned words shelf sink code → DecidesSynth words shelf sink code
-decides words shelf sink code (status, is, outcome) v free = subst (DecidesSpec v) (sym is) (decides_outcome words shelf sink v status free outcome)
+decides_skel : (words : List (List ℕ)) (shelf : ShelfSeen) (sink : SinkSeen) (code : ℕ) → IsPlanned words shelf sink code → DecidesSkel words shelf sink code
+decides_skel words shelf sink code planned files spec sol v structures free told sol_told solves =
+    decided words shelf sink (skel spec sol) files (λ n. (n ≡ 8) ⊎ (n ≡ 0)) code free (inl refl) (λ status text h. shown v structures status text solves (unhindered_both Skels words shelf sink (skel spec sol) files spec sol v structures status text free told sol_told h)) planned
+
+decides_wishes : (sys : SystemParts) (run : List Wish) (status : Status) (text : List ℕ) → ReplaysWishes sys run status text → DecidesRun sys run (code_of status)
+decides_wishes sys run Done text h = inr (inl (refl, (h.whole, h.moves, h.leaves)))
+decides_wishes sys run Fails text h = inr (inr (refl, (h.at, h.why, h.first)))
+decides_wishes sys run Usage text h = absurd h
+decides_wishes sys run Refused text h = absurd h
+decides_wishes sys run Unsatisfiable text h = absurd h
+decides_wishes sys run ReadFault text h = absurd h
+decides_wishes sys run WriteFault text h = absurd h
+decides_wishes sys run OutOfMemory text h = absurd h
+
+decides_run : (v : SpecParts) (structures : List Structure) (sys : SystemParts) (run : List Wish) (status : Status) (text : List ℕ) → Solves v.roles v.kinds structures → Replays v structures sys run status text → DecidesRun sys run (code_of status)
+decides_run v structures sys run status text solves (inl h) = decides_wishes sys run status text h.1
+decides_run v structures sys run status text solves (inr h) = absurd (never_fails v.roles v.kinds structures h.1.0 solves h.1.1)
+
+decides_journal : (words : List (List ℕ)) (shelf : ShelfSeen) (sink : SinkSeen) (command : Command) (files : List (List ℕ × List ℕ)) (journal : List ℕ) (v : SpecParts) (structures : List Structure) (sys : SystemParts) (entries : List Entry) (status : Status) (text : List ℕ)
+    → IsUnhindered words shelf sink command files → IsSystemOf v structures sys → IsTold (journal_grammar sys) files journal entries → Solves v.roles v.kinds structures → AnswersJournal shelf journal v structures status text → DecidesRun sys (wishes_of entries) (code_of status)
+decides_journal words shelf sink command files journal v structures sys entries status text free system told solves (other, other_is, h) =
+    let behind = subst (λ (s : SystemParts). ReadsAndAnswers (journal_grammar s) (λ every. Replays v structures s (wishes_of every)) shelf journal status text) (one_system v structures other sys other_is system) h in
+    decides_run v structures sys (wishes_of entries) status text solves (reads_told (journal_grammar sys) (λ every. Replays v structures sys (wishes_of every)) shelf files journal entries status text free.told (never_unread (journal_grammar sys) words shelf sink command files journal entries status text free told) told behind)
+
+decides_replay : (words : List (List ℕ)) (shelf : ShelfSeen) (sink : SinkSeen) (code : ℕ) → IsPlanned words shelf sink code → DecidesReplay words shelf sink code
+decides_replay words shelf sink code planned files spec sol journal v structures sys entries free told sol_told system journal_told solves =
+    decided words shelf sink (replay spec sol journal) files (DecidesRun sys (wishes_of entries)) code free (inl refl)
+    (λ status text h.
+    decides_journal words shelf sink (replay spec sol journal) files journal v structures sys entries status text free system journal_told solves (unhindered_both (AnswersJournal shelf journal) words shelf sink (replay spec sol journal) files spec sol v structures status text free told sol_told h))
+    planned
+
+pub decides : (words : List (List ℕ)) (shelf : ShelfSeen) (sink : SinkSeen) (code : ℕ) → IsPlanned words shelf sink code → Decides words shelf sink code
+decides words shelf sink code planned = record {
+  decides_synth = decides_synth words shelf sink code planned;
+  decides_prove = decides_prove words shelf sink code planned;
+  decides_skel = decides_skel words shelf sink code planned;
+  decides_replay = decides_replay words shelf sink code planned;
+}

@@ -7,6 +7,7 @@ use Rattle.ctl_form.specs.declared.pair_spec.PairSpec.{PairSpec}
 use Rattle.ctl_form.specs.Kind.{role_at, Satisfies, SatisfiesKind, Solves}
 use Rattle.ctl_text.specs.Value.{kind_at}
 use Rattle.skeleton_tool.specs.Answer.{IsFirstUnsatisfiable}
+use Rattle.solution_text.specs.Failing.{IsFirstFailing, structure_at}
 use Rattle.solution_text.specs.SolutionText.{AreOver}
 
 solves_more : (roles : List RoleParts) (ks : List PairSpec) (ms : List Structure) (k : PairSpec) (m : Structure) → Solves roles ks ms → SatisfiesKind roles k m → Solves roles (ks ++ k ∷ []) (ms ++ m ∷ [])
@@ -45,3 +46,13 @@ first_unsatisfiable roles kinds i kind ms lt is solves none = record {
     earlier j below = let within : j < length (take i kinds) = rw (length-take-le i kinds (omega (arith, lt))) below in
         let u = has_structure roles (take i kinds) ms j (record { name = []; role_a = 0; role_b = 0; clauses = [] }) solves within in
         (u.0, subst (λ k. SatisfiesKind roles k u.0) (get_or-take i kinds j (record { name = []; role_a = 0; role_b = 0; clauses = [] }) below) u.1)
+
+pub satisfied_at : (roles : List RoleParts) (kinds : List PairSpec) (structures : List Structure) (i : ℕ) → Solves roles kinds structures → i < length kinds → SatisfiesKind roles (kind_at kinds i) (structure_at structures i)
+satisfied_at roles [] structures i s lt = absurd (omega (arith, lt))
+satisfied_at roles (k ∷ kinds) [] i s lt = absurd s
+satisfied_at roles (k ∷ kinds) (m ∷ structures) zero s lt = s.0
+satisfied_at roles (k ∷ kinds) (m ∷ structures) (suc i) s lt = satisfied_at roles kinds structures i s.1 (omega (arith, lt))
+
+-- of what solves, no kind fails
+pub never_fails : (roles : List RoleParts) (kinds : List PairSpec) (structures : List Structure) (kind : ℕ) → Solves roles kinds structures → IsFirstFailing roles kinds structures kind → ⊥
+never_fails roles kinds structures kind solves first = first.fails (satisfied_at roles kinds structures kind solves first.within)

@@ -16,7 +16,8 @@ use Rattle.solution_text.specs.Item.{end_line, done_line, head_line, kind_line}
 use Rattle.solution_text.specs.SolutionText.{AreOver, item_text, state_text, move_text, structure_text, kind_text, kinds_text, solution_text}
 use Rattle.solution_text.proofs.OneText.{one_text}
 use Rattle.solution_text.proofs.Satisfied.{over_at, over_count}
-use Rattle.skeleton_tool.specs.Answer.{IsSolutionRead}
+use Rattle.skeleton_tool.specs.Answer.{solution_grammar}
+use Rattle.skeleton_tool.specs.Reading.{IsRead}
 use Rattle.skeleton_tool.specs.Taking.{Files}
 
 -- each state has a line
@@ -50,7 +51,7 @@ kind_lines roles (kind ∷ kinds) (m ∷ structures) (suc k) over lt =
     let both = length-append (kind_text kind.name (role_at roles kind.role_a) (role_at roles kind.role_b) m) (kinds_text roles kinds structures) in
     omega arith
 
-few_states : (files : Files) (v : SpecParts) (file : List ℕ) (structures : List Structure) (k : ℕ) → AreOver v.roles v.kinds structures → IsSolutionRead files v file structures → k < length v.kinds → length (structure_at structures k).states < 2 ^ 32
+few_states : (files : Files) (v : SpecParts) (file : List ℕ) (structures : List Structure) (k : ℕ) → AreOver v.roles v.kinds structures → IsRead (solution_grammar v) files file structures → k < length v.kinds → length (structure_at structures k).states < 2 ^ 32
 few_states files v file structures k over read lt =
     let lines = kind_lines v.roles v.kinds structures k over lt in
     let text = kinds_text v.roles v.kinds structures in
@@ -63,7 +64,7 @@ few_states files v file structures k over read lt =
 ends_at : (kinds : List PairSpec) (k : ℕ) → ends_of (kind_ends kinds) k ≡ ((kind_at kinds k).role_a, (kind_at kinds k).role_b)
 ends_at kinds k = get_or-map (λ (kind : PairSpec). (kind.role_a, kind.role_b)) kinds k (record { name = []; role_a = 0; role_b = 0; clauses = [] })
 
-pub has_structures : (files : Files) (v : SpecParts) (file : List ℕ) (structures : List Structure) → AreOver v.roles v.kinds structures → IsSolutionRead files v file structures → HasStructures (network_of v) structures
+pub has_structures : (files : Files) (v : SpecParts) (file : List ℕ) (structures : List Structure) → AreOver v.roles v.kinds structures → IsRead (solution_grammar v) files file structures → HasStructures (network_of v) structures
 has_structures files v file structures over read =
     let count : length (kind_ends v.kinds) ≡ length v.kinds = length-map v.kinds (λ (kind : PairSpec). (kind.role_a, kind.role_b)) in
     let each = over_count v.roles v.kinds structures over in

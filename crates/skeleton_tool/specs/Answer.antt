@@ -6,7 +6,6 @@ use Rattle.pair_structure.specs.Role.{RoleParts}
 use Rattle.pair_structure.specs.Structure.{Structure}
 use Rattle.ctl_form.specs.declared.pair_spec.PairSpec.{PairSpec}
 use Rattle.ctl_form.specs.Kind.{SatisfiesKind, Solves}
-use Rattle.ctl_text.specs.declared.cause.TextCause.{TextCause}
 use Rattle.ctl_text.specs.Value.{SpecParts, kind_at}
 use Rattle.ctl_text.specs.Text.{IsSpecText, IsRefused}
 use Rattle.solution_text.specs.Text.{IsSolutionText, IsRefused as IsSolutionRefused}
@@ -17,50 +16,16 @@ use Rattle.skeleton_tool.specs.Status.{code_of}
 use Rattle.skeleton_tool.specs.Failing.{NamesFailing}
 use Rattle.skeleton_tool.specs.Skel.{Skels}
 use Rattle.skeleton_tool.specs.Replay.{AnswersJournal}
-use Rattle.skeleton_tool.specs.Refusal.{refused_text}
-use Rattle.skeleton_tool.specs.Taking.{Files, ShelfSeen, IsGiven, IsUntaken}
+use Rattle.skeleton_tool.specs.Reading.{Grammar, IsUnread, ReadsAndAnswers}
+use Rattle.skeleton_tool.specs.Taking.{ShelfSeen}
 
--- a specification is read of the file: its bytes are a text of this value and of no other
-pub record IsSpecRead (files : Files) (file : List ℕ) (v : SpecParts) : Type 0 where
-  pub bytes : List ℕ
-  pub given : IsGiven files file spec_limit bytes
-  pub text : IsSpecText bytes v
-  pub only : (other : SpecParts) → IsSpecText bytes other → v ≡ other
+-- a specification
+abbrev pub spec_grammar : Grammar SpecParts
+spec_grammar = record { word = codes "spec"; limit = spec_limit; is_text = IsSpecText; is_refused = IsRefused }
 
--- the file is a text of no specification, and its first bad line is named with its lowest cause
-pub record IsBadSpec (files : Files) (file : List ℕ) (text : List ℕ) : Type 0 where
-  pub bytes : List ℕ
-  pub given : IsGiven files file spec_limit bytes
-  pub no_text : (v : SpecParts) → IsSpecText bytes v → ⊥
-  pub line : ℕ
-  pub cause : TextCause
-  pub refused : IsRefused bytes line cause
-  pub text_is : text ≡ refused_text (codes "spec") line cause
-
--- no specification is read of the file
-abbrev pub NoSpec : ShelfSeen → List ℕ → Status → List ℕ → Type 0
-NoSpec shelf file status text = IsUntaken shelf (codes "spec") file spec_limit status text ⊎ ((status ≡ Refused) × IsBadSpec shelf.files file text)
-
--- a solution of the specification is read of the file: its bytes are a text of these structures and of no others
-pub record IsSolutionRead (files : Files) (v : SpecParts) (file : List ℕ) (structures : List Structure) : Type 0 where
-  pub bytes : List ℕ
-  pub given : IsGiven files file solution_limit bytes
-  pub text : IsSolutionText v.roles v.kinds bytes structures
-  pub only : (others : List Structure) → IsSolutionText v.roles v.kinds bytes others → structures ≡ others
-
--- the file is a text of no solution, and its first bad line is named with its lowest cause
-pub record IsBadSolution (files : Files) (v : SpecParts) (file : List ℕ) (text : List ℕ) : Type 0 where
-  pub bytes : List ℕ
-  pub given : IsGiven files file solution_limit bytes
-  pub no_text : (structures : List Structure) → IsSolutionText v.roles v.kinds bytes structures → ⊥
-  pub line : ℕ
-  pub cause : TextCause
-  pub refused : IsSolutionRefused v.roles v.kinds bytes line cause
-  pub text_is : text ≡ refused_text (codes "solution") line cause
-
--- no solution is read of the file
-abbrev pub NoSolution : ShelfSeen → SpecParts → List ℕ → Status → List ℕ → Type 0
-NoSolution shelf v file status text = IsUntaken shelf (codes "solution") file solution_limit status text ⊎ ((status ≡ Refused) × IsBadSolution shelf.files v file text)
+-- a solution of this specification
+abbrev pub solution_grammar : SpecParts → Grammar (List Structure)
+solution_grammar v = record { word = codes "solution"; limit = solution_limit; is_text = IsSolutionText v.roles v.kinds; is_refused = IsSolutionRefused v.roles v.kinds }
 
 -- the text of structures that solve these kinds
 pub record IsSolved (roles : List RoleParts) (kinds : List PairSpec) (text : List ℕ) : Type 0 where
@@ -88,7 +53,7 @@ AnswersKinds roles kinds status text = ⊥
 
 -- the status and its text are an answer to `synth` of this file
 abbrev pub AnswersSynth : ShelfSeen → List ℕ → Status → List ℕ → Type 0
-AnswersSynth shelf file status text = NoSpec shelf file status text ⊎ ((v : SpecParts) × IsSpecRead shelf.files file v × AnswersKinds v.roles v.kinds status text)
+AnswersSynth shelf file status text = ReadsAndAnswers spec_grammar (λ v. AnswersKinds v.roles v.kinds) shelf file status text
 
 -- the structures solve, or the first kind that fails is named
 abbrev pub Proves : SpecParts → List Structure → Status → List ℕ → Type 0
@@ -96,18 +61,13 @@ Proves v structures Done text = Solves v.roles v.kinds structures × (text ≡ c
 Proves v structures Fails text = NamesFailing v structures text
 Proves v structures status text = ⊥
 
--- a specification and a solution of it are read
-pub record AreRead (files : Files) (spec sol : List ℕ) (v : SpecParts) (structures : List Structure) : Type 0 where
-  pub spec_read : IsSpecRead files spec v
-  pub solution_read : IsSolutionRead files v sol structures
-
--- one of the two is not: the specification comes first, whole
+-- one of the two is not read: the specification comes first, whole
 abbrev pub NotRead : ShelfSeen → List ℕ → List ℕ → Status → List ℕ → Type 0
-NotRead shelf spec sol status text = NoSpec shelf spec status text ⊎ ((v : SpecParts) × IsSpecRead shelf.files spec v × NoSolution shelf v sol status text)
+NotRead shelf spec sol status text = ReadsAndAnswers spec_grammar (λ v. IsUnread (solution_grammar v) shelf sol) shelf spec status text
 
--- one of the two is not read, or both are and what they say is answered so
+-- a specification and then a solution of it are read, and what they say is answered so; or one of the two is not read
 abbrev pub AnswersBoth : (SpecParts → List Structure → Status → List ℕ → Type 0) → ShelfSeen → List ℕ → List ℕ → Status → List ℕ → Type 0
-AnswersBoth answers shelf spec sol status text = NotRead shelf spec sol status text ⊎ ((v : SpecParts) × (structures : List Structure) × AreRead shelf.files spec sol v structures × answers v structures status text)
+AnswersBoth answers shelf spec sol status text = ReadsAndAnswers spec_grammar (λ v. ReadsAndAnswers (solution_grammar v) (answers v) shelf sol) shelf spec status text
 
 -- the status and its text are an answer to this command
 abbrev pub AnswersCommand : ShelfSeen → Command → Status → List ℕ → Type 0
@@ -116,10 +76,9 @@ AnswersCommand shelf (prove spec sol) status text = AnswersBoth Proves shelf spe
 AnswersCommand shelf (skel spec sol) status text = AnswersBoth Skels shelf spec sol status text
 AnswersCommand shelf (replay spec sol journal) status text = AnswersBoth (AnswersJournal shelf journal) shelf spec sol status text
 
--- the status and its text are an answer to these words, over such a shelf
+-- the words are no command, and the usage is told; or they are one, and it is answered
 abbrev pub IsAnswer : List (List ℕ) → ShelfSeen → Status → List ℕ → Type 0
-IsAnswer words shelf Usage text = (command_of words ≡ None) × (text ≡ usage_text)
-IsAnswer words shelf status text = (command : Command) × (command_of words ≡ Some command) × AnswersCommand shelf command status text
+IsAnswer words shelf status text = ((command_of words ≡ None) × (status ≡ Usage) × (text ≡ usage_text)) ⊎ ((command : Command) × (command_of words ≡ Some command) × AnswersCommand shelf command status text)
 
 -- what is known of the sink before and after the call: its bytes, where they are told, and its count
 pub record SinkSeen : Type 0 where
@@ -128,7 +87,12 @@ pub record SinkSeen : Type 0 where
   pub faults_before : ℕ
   pub faults_after : ℕ
 
--- what was written belongs to the status: its whole text; of a write fault, a prefix of another's; for want of memory, nothing
+-- a sink of which these are the bytes and the count, seen before a call and after it
+abbrev pub sink_seen : {A : Type 0} → (A → Option (List ℕ)) → (A → ℕ) → A → A → SinkSeen
+sink_seen written faults old new = record { before = written old; after = written new; faults_before = faults old; faults_after = faults new }
+
+-- what was written belongs to the status: its whole text; of a write fault, a prefix of another's; for want of memory,
+-- nothing
 abbrev pub IsOutcome : List (List ℕ) → ShelfSeen → SinkSeen → Status → Type 0
 IsOutcome words shelf sink WriteFault = (other : Status) × (text : List ℕ) × IsAnswer words shelf other text × Rose sink.faults_before sink.faults_after × AppendsPrefix sink.before sink.after text
 IsOutcome words shelf sink OutOfMemory = sink.after ≡ sink.before

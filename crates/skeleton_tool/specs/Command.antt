@@ -1,5 +1,5 @@
 -- The words of a call, and the command that they are.
-use Rattle.std.specs.Prelude.{ℕ, ◌==◌, ◌&&◌, ◌||◌, not, Bool, false, Option, Some, None, List, [], ◌∷◌, codes, map, String, string_bytes, if◌then◌else◌}
+use Rattle.std.specs.Prelude.{ℕ, ◌≡◌, All, ◌==◌, ◌&&◌, ◌||◌, not, Bool, false, Option, Some, None, List, [], ◌∷◌, codes, map, String, string_bytes, if◌then◌else◌}
 use Rattle.std.specs.declared.alloc.Global.{Global}
 use Rattle.std.specs.Str.{bytes_eq}
 
@@ -34,6 +34,25 @@ command_of (name ∷ spec ∷ []) = if bytes_eq name (codes "synth") && not (beg
 command_of (name ∷ spec ∷ sol ∷ []) = command_on name spec sol
 command_of (name ∷ spec ∷ sol ∷ journal ∷ []) = command_over name spec sol journal
 command_of words = None
+
+-- the words of a command: its name, and behind it its files
+abbrev pub words_for : Command → List (List ℕ)
+words_for (synth spec) = codes "synth" ∷ spec ∷ []
+words_for (prove spec sol) = codes "prove" ∷ spec ∷ sol ∷ []
+words_for (skel spec sol) = codes "skel" ∷ spec ∷ sol ∷ []
+words_for (replay spec sol journal) = codes "replay" ∷ spec ∷ sol ∷ journal ∷ []
+
+abbrev pub NoDash : List ℕ → Type 0
+NoDash word = begins_with_dash word ≡ false
+
+-- the words are those of this command, and none of them begins with a dash
+pub record IsCommand (words : List (List ℕ)) (command : Command) : Type 0 where
+  pub words_are : words ≡ words_for command
+  pub no_dash : All NoDash words
+
+-- words are a command exactly where they are its words, and none of them begins with a dash
+abbrev pub NamesCommands : Type 0
+NamesCommands = (words : List (List ℕ)) (command : Command) → (command_of words ≡ Some command → IsCommand words command) × (IsCommand words command → command_of words ≡ Some command)
 
 abbrev pub words_of : List (String Global) → List (List ℕ)
 words_of = map string_bytes

@@ -1,24 +1,27 @@
--- What `synth` owes where nothing hinders it.
+-- What each command owes where nothing hinders it.
 use Rattle.std.specs.Prelude.{ℕ, ◌≡◌, ◌⊎◌, Some, List}
 use Rattle.edge_io.specs.Counts.{Rose}
-use Rattle.edge_io.specs.Told.{file_named}
 use Rattle.pair_structure.specs.Structure.{Structure}
+use Rattle.conjunctive_compose.specs.declared.wish.Wish.{Wish}
+use Rattle.conjunctive_compose.specs.declared.wish.StepAnswer.{StepAnswer}
+use Rattle.conjunctive_compose.specs.System.{SystemParts}
+use Rattle.conjunctive_compose.specs.Whole.{WholeParts}
+use Rattle.firing_journal.specs.declared.journal.Entry.{Entry}
+use Rattle.firing_journal.specs.Journal.{wishes_of}
+use Rattle.firing_journal.specs.Replay.{LeavesWhole, IsFirstStuck}
 use Rattle.ctl_form.specs.Kind.{Solves}
-use Rattle.ctl_text.specs.Text.{IsSpecText}
 use Rattle.ctl_text.specs.Value.{SpecParts}
-use Rattle.skeleton_tool.specs.Answer.{SinkSeen, IsFirstUnsatisfiable}
-use Rattle.skeleton_tool.specs.Command.{synth, command_of}
+use Rattle.solution_text.specs.Failing.{IsFirstFailing}
+use Rattle.skeleton_tool.specs.Answer.{SinkSeen, IsFirstUnsatisfiable, spec_grammar, solution_grammar}
+use Rattle.skeleton_tool.specs.Command.{Command, synth, prove, skel, replay, command_of}
+use Rattle.skeleton_tool.specs.Reading.{IsTold}
+use Rattle.skeleton_tool.specs.Replay.{IsSystemOf, journal_grammar}
 use Rattle.skeleton_tool.specs.Taking.{ShelfSeen}
 
--- the words are `synth` of a file whose bytes are told and are a text of this specification, and no count rose
-pub record IsUnhindered (words : List (List ℕ)) (shelf : ShelfSeen) (sink : SinkSeen) (v : SpecParts) : Type 0 where
-  pub file : List ℕ
-  pub command : command_of words ≡ Some (synth file)
-  pub files : List (List ℕ × List ℕ)
+-- the words are this command, the shelf's files are told, and no count rose
+pub record IsUnhindered (words : List (List ℕ)) (shelf : ShelfSeen) (sink : SinkSeen) (command : Command) (files : List (List ℕ × List ℕ)) : Type 0 where
+  pub command_is : command_of words ≡ Some command
   pub told : shelf.files ≡ Some files
-  pub bytes : List ℕ
-  pub has : file_named files file ≡ Some bytes
-  pub text : IsSpecText bytes v
   pub no_fault : Rose shelf.faults_before shelf.faults_after → ⊥
   pub none_long : Rose shelf.longs_before shelf.longs_after → ⊥
   pub written : Rose sink.faults_before sink.faults_after → ⊥
@@ -29,4 +32,35 @@ DecidesSpec v code = (code ≡ 8) ⊎ (((code ≡ 0) × ((structures : List Stru
 
 -- each specification is decided, where nothing hinders it
 abbrev pub DecidesSynth : List (List ℕ) → ShelfSeen → SinkSeen → ℕ → Type 0
-DecidesSynth words shelf sink code = (v : SpecParts) → IsUnhindered words shelf sink v → DecidesSpec v code
+DecidesSynth words shelf sink code = (files : List (List ℕ × List ℕ)) (spec : List ℕ) (v : SpecParts) → IsUnhindered words shelf sink (synth spec) files → IsTold spec_grammar files spec v → DecidesSpec v code
+
+-- 0 where the structures solve, else 4; or want of memory, 8
+abbrev pub DecidesSolution : SpecParts → List Structure → ℕ → Type 0
+DecidesSolution v structures code = (code ≡ 8) ⊎ (((code ≡ 0) × Solves v.roles v.kinds structures) ⊎ ((code ≡ 4) × ((kind : ℕ) × IsFirstFailing v.roles v.kinds structures kind)))
+
+-- each solution is decided, where nothing hinders it
+abbrev pub DecidesProve : List (List ℕ) → ShelfSeen → SinkSeen → ℕ → Type 0
+DecidesProve words shelf sink code = (files : List (List ℕ × List ℕ)) (spec sol : List ℕ) (v : SpecParts) (structures : List Structure)
+    → IsUnhindered words shelf sink (prove spec sol) files → IsTold spec_grammar files spec v → IsTold (solution_grammar v) files sol structures → DecidesSolution v structures code
+
+-- each solution that solves is shown, where nothing hinders it
+abbrev pub DecidesSkel : List (List ℕ) → ShelfSeen → SinkSeen → ℕ → Type 0
+DecidesSkel words shelf sink code = (files : List (List ℕ × List ℕ)) (spec sol : List ℕ) (v : SpecParts) (structures : List Structure)
+    → IsUnhindered words shelf sink (skel spec sol) files → IsTold spec_grammar files spec v → IsTold (solution_grammar v) files sol structures → Solves v.roles v.kinds structures → (code ≡ 8) ⊎ (code ≡ 0)
+
+-- 0 where the wishes are a run, else 4; or want of memory, 8
+abbrev pub DecidesRun : SystemParts → List Wish → ℕ → Type 0
+DecidesRun sys run code = (code ≡ 8) ⊎ (((code ≡ 0) × ((whole : WholeParts) × (moves : List ℕ) × LeavesWhole sys run whole moves)) ⊎ ((code ≡ 4) × ((at : ℕ) × (why : StepAnswer) × IsFirstStuck sys run at why)))
+
+-- each journal is decided for a solution that solves, where nothing hinders it
+abbrev pub DecidesReplay : List (List ℕ) → ShelfSeen → SinkSeen → ℕ → Type 0
+DecidesReplay words shelf sink code = (files : List (List ℕ × List ℕ)) (spec sol journal : List ℕ) (v : SpecParts) (structures : List Structure) (sys : SystemParts) (entries : List Entry)
+    → IsUnhindered words shelf sink (replay spec sol journal) files → IsTold spec_grammar files spec v → IsTold (solution_grammar v) files sol structures → IsSystemOf v structures sys → IsTold (journal_grammar sys) files journal entries → Solves v.roles v.kinds structures
+    → DecidesRun sys (wishes_of entries) code
+
+-- what each command owes
+pub record Decides (words : List (List ℕ)) (shelf : ShelfSeen) (sink : SinkSeen) (code : ℕ) : Type 0 where
+  pub decides_synth : DecidesSynth words shelf sink code
+  pub decides_prove : DecidesProve words shelf sink code
+  pub decides_skel : DecidesSkel words shelf sink code
+  pub decides_replay : DecidesReplay words shelf sink code

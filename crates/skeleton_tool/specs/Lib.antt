@@ -2,6 +2,9 @@ pub mod Answer
 pub mod Command
 pub mod Complete
 pub mod Failing
+pub mod Headline
+pub mod OneAnswer
+pub mod Reading
 pub mod Refusal
 pub mod Replay
 pub mod Showing

@@ -1,4 +1,5 @@
--- What `replay` answers to a solution and a journal: the run that the journal's wishes are, or the first that does not move.
+-- What `replay` answers to a solution and a journal: the run that the journal's wishes are, or the first that does not
+-- move.
 use Rattle.std.specs.Prelude.{ℕ, ◌≡◌, ◌<◌, ◌⊎◌, List, [], ◌++◌, codes, decimal, length, slice_index}
 use Rattle.std.specs.List.{flat_map, range_with_len}
 use Rattle.pair_structure.specs.Structure.{Structure}
@@ -14,14 +15,13 @@ use Rattle.firing_journal.specs.Journal.{wishes_of}
 use Rattle.firing_journal.specs.Replay.{LeavesWhole, IsFirstStuck, wish_at}
 use Rattle.firing_journal.specs.Text.{IsJournalText, IsRefused}
 use Rattle.ctl_form.specs.Kind.{Solves}
-use Rattle.ctl_text.specs.declared.cause.TextCause.{TextCause}
 use Rattle.ctl_text.specs.Value.{SpecParts, network_of, process_at}
 use Rattle.skeleton_tool.specs.declared.status.Status.{Status}
 use Rattle.skeleton_tool.specs.declared.status.Status.TheVariants.{Done, Usage, Refused, Unsatisfiable, Fails, ReadFault, WriteFault, OutOfMemory}
 use Rattle.skeleton_tool.specs.Command.{journal_limit}
 use Rattle.skeleton_tool.specs.Failing.{NamesFailing}
-use Rattle.skeleton_tool.specs.Refusal.{refused_text}
-use Rattle.skeleton_tool.specs.Taking.{Files, ShelfSeen, IsGiven, IsUntaken}
+use Rattle.skeleton_tool.specs.Reading.{Grammar, ReadsAndAnswers}
+use Rattle.skeleton_tool.specs.Taking.{ShelfSeen}
 
 -- the processes of the specification, run by the commands of these structures
 pub record IsSystemOf (v : SpecParts) (structures : List Structure) (sys : SystemParts) : Type 0 where
@@ -29,26 +29,13 @@ pub record IsSystemOf (v : SpecParts) (structures : List Structure) (sys : Syste
   pub structures_are : sys.structures ≡ structures
   pub system : IsSystem sys
 
--- a journal for the system is read of the file: its bytes are a text of these entries and of no others
-pub record IsJournalRead (files : Files) (sys : SystemParts) (file : List ℕ) (entries : List Entry) : Type 0 where
-  pub bytes : List ℕ
-  pub given : IsGiven files file journal_limit bytes
-  pub text : IsJournalText sys bytes entries
-  pub only : (others : List Entry) → IsJournalText sys bytes others → entries ≡ others
+-- a specification and structures make one system
+abbrev pub OneSystem : Type 0
+OneSystem = (v : SpecParts) (structures : List Structure) (one other : SystemParts) → IsSystemOf v structures one → IsSystemOf v structures other → one ≡ other
 
--- the file is a text of no journal for the system, and its first bad line is named with its lowest cause
-pub record IsBadJournal (files : Files) (sys : SystemParts) (file : List ℕ) (text : List ℕ) : Type 0 where
-  pub bytes : List ℕ
-  pub given : IsGiven files file journal_limit bytes
-  pub no_text : (entries : List Entry) → IsJournalText sys bytes entries → ⊥
-  pub line : ℕ
-  pub cause : TextCause
-  pub refused : IsRefused sys bytes line cause
-  pub text_is : text ≡ refused_text (codes "journal") line cause
-
--- no journal is read of the file
-abbrev pub NoJournal : ShelfSeen → SystemParts → List ℕ → Status → List ℕ → Type 0
-NoJournal shelf sys file status text = IsUntaken shelf (codes "journal") file journal_limit status text ⊎ ((status ≡ Refused) × IsBadJournal shelf.files sys file text)
+-- a journal for this system
+abbrev pub journal_grammar : SystemParts → Grammar (List Entry)
+journal_grammar sys = record { word = codes "journal"; limit = journal_limit; is_text = IsJournalText sys; is_refused = IsRefused sys }
 
 abbrev pub process_name : SystemParts → ℕ → List ℕ
 process_name sys k = (process_at sys.network.processes k).name
@@ -120,6 +107,7 @@ ReplaysWishes sys run status text = ⊥
 abbrev pub Replays : SpecParts → List Structure → SystemParts → List Wish → Status → List ℕ → Type 0
 Replays v structures sys run status text = (Solves v.roles v.kinds structures × ReplaysWishes sys run status text) ⊎ ((status ≡ Fails) × NamesFailing v structures text)
 
--- the status and its text are an answer to this file as a journal of the system of the solution; it is read before the solution is judged
+-- the status and its text are an answer to this file as a journal of the system of the solution; it is read before the
+-- solution is judged
 abbrev pub AnswersJournal : ShelfSeen → List ℕ → SpecParts → List Structure → Status → List ℕ → Type 0
-AnswersJournal shelf file v structures status text = (sys : SystemParts) × IsSystemOf v structures sys × (NoJournal shelf sys file status text ⊎ ((entries : List Entry) × IsJournalRead shelf.files sys file entries × Replays v structures sys (wishes_of entries) status text))
+AnswersJournal shelf file v structures status text = (sys : SystemParts) × IsSystemOf v structures sys × ReadsAndAnswers (journal_grammar sys) (λ entries. Replays v structures sys (wishes_of entries)) shelf file status text

@@ -1,7 +1,7 @@
-ghost use Rattle.std.specs.Prelude.{◌≡◌, ◌<◌, [], IfOk, IfErr, All, length, Some};
+ghost use Rattle.std.specs.Prelude.{◌≡◌, ◌<◌, [], IfOk, All, length, Some};
 ghost use Rattle.skeleton_tool.specs.Answer.{IsAnswer, AnswersCommand};
 ghost use Rattle.skeleton_tool.specs.Command.{command_of, asked_files, words_of};
-ghost use Rattle.skeleton_tool.specs.Taking.{StopsAs};
+ghost use Rattle.skeleton_tool.specs.Taking.{shelf_seen, EndsAs, KeepsShelf};
 ghost use Rattle.skeleton_tool.specs.View.{command_value};
 
 use crate::command::{Command, command_in};
@@ -24,14 +24,9 @@ pub(crate) fn answer<S: Shelf>(
 ) -> Result<Status, Memory>
     requires allowed { All (λ file. S.may_ask shelf.old file.0 file.1) (asked_files (command_of (words_of words.now))) }
     requires empty { text.old.items ≡ [] }
-    ensures answer { IfOk result (λ status. IsAnswer (words_of words.now) (record {
-      files = S.files shelf.old;
-      faults_before = S.faults shelf.old;
-      faults_after = S.faults shelf.new;
-      longs_before = S.longs shelf.old;
-      longs_after = S.longs shelf.new;
-    }) status text.new.items) }
+    ensures answer { IfOk result (λ status. IsAnswer (words_of words.now) (shelf_seen S.files S.faults S.longs shelf.old shelf.new) status text.new.items) }
     ensures some { IfOk result (λ status. 0 < length text.new.items) }
+    ensures kept { KeepsShelf S.files S.faults S.longs S.may_ask shelf.old shelf.new }
 {
     match command_in(words) {
         Some(command) => {
@@ -59,21 +54,8 @@ fn answer_command<S: Shelf>(
 ) -> Result<Status, Stop>
     requires allowed { All (λ file. S.may_ask shelf.old file.0 file.1) (asked_files (Some (command_value command))) }
     requires empty { text.old.items ≡ [] }
-    ensures answer { IfOk result (λ status. AnswersCommand (record {
-      files = S.files shelf.old;
-      faults_before = S.faults shelf.old;
-      faults_after = S.faults shelf.new;
-      longs_before = S.longs shelf.old;
-      longs_after = S.longs shelf.new;
-    }) (command_value command.entry) status text.new.items) }
-    ensures some { IfOk result (λ status. 0 < length text.new.items) }
-    ensures stopped { IfErr result (StopsAs (AnswersCommand (record {
-      files = S.files shelf.old;
-      faults_before = S.faults shelf.old;
-      faults_after = S.faults shelf.new;
-      longs_before = S.longs shelf.old;
-      longs_after = S.longs shelf.new;
-    }) (command_value command.entry)) text.new.items) }
+    ensures ends { EndsAs (AnswersCommand (shelf_seen S.files S.faults S.longs shelf.old shelf.new) (command_value command.entry)) text.new.items result }
+    ensures kept { KeepsShelf S.files S.faults S.longs S.may_ask shelf.old shelf.new }
 {
     match command {
         Command::Synth(spec) => {
@@ -88,9 +70,6 @@ fn answer_command<S: Shelf>(
             let status = skel(alloc, spec, sol, shelf, text)?;
             Ok(status)
         }
-        Command::Replay(spec, sol, journal) => {
-            let status = replay(alloc, spec, sol, journal, shelf, text)?;
-            Ok(status)
-        }
+        Command::Replay(spec, sol, journal) => replay(alloc, spec, sol, journal, shelf, text),
     }
 }

@@ -12,7 +12,8 @@ pub(crate) enum Command<'a> {
     Replay(&'a str, &'a str, &'a str),
 }
 
-/// The command that the words are, if they are one: its name, and as many words as it takes, of which none begins with a dash.
+/// The command that the words are, if they are one: its name, and as many words as it takes, of which none begins with
+/// a dash.
 pub(crate) fn command_in(words: &[String]) -> Option<Command<'_>>
     ensures { option_map command_value result ≡ command_of (words_of words.now) }
 {

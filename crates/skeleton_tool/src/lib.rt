@@ -5,7 +5,9 @@ mod answer;
 mod call;
 mod command;
 mod failing;
+mod laws;
 mod proving;
+mod reading;
 mod refusal;
 mod replaying;
 mod run_text;
@@ -15,7 +17,6 @@ mod status;
 mod stop;
 mod synthesis;
 mod taking;
-mod taking_both;
-mod taking_journal;
 
 pub use call::plan;
+pub use laws::{names_commands, one_answer, one_system};

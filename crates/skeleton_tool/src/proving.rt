@@ -1,13 +1,13 @@
-ghost use Rattle.std.specs.Prelude.{◌≡◌, ◌<◌, [], IfOk, IfErr, length};
+ghost use Rattle.std.specs.Prelude.{◌≡◌, ◌<◌, [], IfOk, length};
 ghost use Rattle.skeleton_tool.specs.Answer.{AnswersBoth, Proves};
 ghost use Rattle.skeleton_tool.specs.Command.{spec_limit, solution_limit};
-ghost use Rattle.skeleton_tool.specs.Taking.{StopsAs};
+ghost use Rattle.skeleton_tool.specs.Taking.{shelf_seen, EndsAs, KeepsShelf};
 ghost use Rattle.solution_text.specs.SolutionText.{AreOver};
 
 use crate::failing::solves_or_writes;
+use crate::reading::take_both;
 use crate::status::Status;
 use crate::stop::Stop;
-use crate::taking_both::take_both;
 use ctl_text::Spec;
 use edge_io::Shelf;
 use pair_structure::Memory;
@@ -25,21 +25,8 @@ pub(crate) fn prove<S: Shelf>(
     requires spec { S.may_ask shelf.old spec.now spec_limit }
     requires sol { S.may_ask shelf.old sol.now solution_limit }
     requires empty { text.old.items ≡ [] }
-    ensures answer { IfOk result (λ status. AnswersBoth Proves (record {
-      files = S.files shelf.old;
-      faults_before = S.faults shelf.old;
-      faults_after = S.faults shelf.new;
-      longs_before = S.longs shelf.old;
-      longs_after = S.longs shelf.new;
-    }) spec.now sol.now status text.new.items) }
-    ensures some { IfOk result (λ status. 0 < length text.new.items) }
-    ensures stopped { IfErr result (StopsAs (AnswersBoth Proves (record {
-      files = S.files shelf.old;
-      faults_before = S.faults shelf.old;
-      faults_after = S.faults shelf.new;
-      longs_before = S.longs shelf.old;
-      longs_after = S.longs shelf.new;
-    }) spec.now sol.now) text.new.items) }
+    ensures ends { EndsAs (AnswersBoth Proves (shelf_seen S.files S.faults S.longs shelf.old shelf.new) spec.now sol.now) text.new.items result }
+    ensures kept { KeepsShelf S.files S.faults S.longs S.may_ask shelf.old shelf.new }
 {
     let (spec, sol) = take_both(alloc, spec, sol, shelf, text)?;
     let status = judge(alloc, &spec, &sol, text)?;

@@ -1,12 +1,30 @@
-ghost use Rattle.std.specs.Prelude.{◌≡◌, ◌++◌, OnOk};
+ghost use Rattle.std.specs.Prelude.{◌≡◌, ◌++◌, [], OnOk};
+ghost use Rattle.skeleton_tool.specs.Reading.{IsRefusedAs};
 ghost use Rattle.skeleton_tool.specs.Refusal.{cause_word, refused_text};
+ghost use Rattle.skeleton_tool.specs.Taking.{StopsAs};
 
-use ctl_text::TextCause;
+use crate::status::Status;
+use crate::stop::Stop;
+use ctl_text::{TextCause, TextFault};
 use itoa::Buffer;
 use std::alloc::AllocError;
 
+/// How a call stops at a file of this word that is not read: its first bad line is written, or memory ran out.
+pub(crate) fn refuse(word: &str, fault: TextFault, text: &mut Vec<u8>) -> Stop
+    requires { text.old.items ≡ [] }
+    ensures { StopsAs (IsRefusedAs word.now fault) text.new.items result }
+{
+    let TextFault::At { line, what } = fault else {
+        return Stop::Memory;
+    };
+    match write_refused(word, line, what, text) {
+        Ok(()) => Stop::Answered(Status::Refused),
+        Err(_) => Stop::Memory,
+    }
+}
+
 /// Appends the text of a file that is refused: its word, its first bad line and the cause.
-pub(crate) fn write_refused(
+fn write_refused(
     word: &str,
     line: u64,
     cause: TextCause,

@@ -1,4 +1,4 @@
-ghost use Rattle.std.specs.Prelude.{◌≡◌, ◌<◌, [], IfOk, IfErr, length};
+ghost use Rattle.std.specs.Prelude.{◌≡◌, ◌<◌, [], IfOk, length};
 ghost use Rattle.conjunctive_compose.specs.System.{HasStructures, IsSystem};
 ghost use Rattle.conjunctive_compose.specs.Whole.{IsProper};
 ghost use Rattle.ctl_text.specs.Value.{network_of};
@@ -6,15 +6,14 @@ ghost use Rattle.firing_journal.specs.Journal.{JournalFits, wishes_of};
 ghost use Rattle.skeleton_tool.specs.Answer.{AnswersBoth};
 ghost use Rattle.skeleton_tool.specs.Command.{spec_limit, solution_limit, journal_limit};
 ghost use Rattle.skeleton_tool.specs.Replay.{AnswersJournal, AreStates, IsSystemOf, Replays, ReplaysWishes};
-ghost use Rattle.skeleton_tool.specs.Taking.{StopsAs};
+ghost use Rattle.skeleton_tool.specs.Taking.{shelf_seen, EndsAs, KeepsShelf};
 ghost use Rattle.solution_text.specs.SolutionText.{AreOver};
 
 use crate::failing::solves_or_writes;
+use crate::reading::{take_both, take_journal};
 use crate::run_text::{write_run, write_stuck};
 use crate::status::Status;
 use crate::stop::Stop;
-use crate::taking_both::take_both;
-use crate::taking_journal::take_journal;
 use conjunctive_compose::{System, Whole};
 use ctl_text::Spec;
 use edge_io::Shelf;
@@ -23,8 +22,8 @@ use pair_structure::Memory;
 use solution_text::Solution;
 use std::alloc::{AllocError, Global};
 
-/// Writes what the journal of one file is, fired by the system of the other two: the run and what it leaves, or the first entry that does
-/// not move.
+/// Writes what the journal of one file is, fired by the system of the other two: the run and what it leaves, or the
+/// first entry that does not move.
 pub(crate) fn replay<S: Shelf>(
     alloc: Global,
     spec: &str,
@@ -37,33 +36,8 @@ pub(crate) fn replay<S: Shelf>(
     requires sol { S.may_ask shelf.old sol.now solution_limit }
     requires journal { S.may_ask shelf.old journal.now journal_limit }
     requires empty { text.old.items ≡ [] }
-    ensures answer { IfOk result (λ status. AnswersBoth (AnswersJournal (record {
-      files = S.files shelf.old;
-      faults_before = S.faults shelf.old;
-      faults_after = S.faults shelf.new;
-      longs_before = S.longs shelf.old;
-      longs_after = S.longs shelf.new;
-    }) journal.now) (record {
-      files = S.files shelf.old;
-      faults_before = S.faults shelf.old;
-      faults_after = S.faults shelf.new;
-      longs_before = S.longs shelf.old;
-      longs_after = S.longs shelf.new;
-    }) spec.now sol.now status text.new.items) }
-    ensures some { IfOk result (λ status. 0 < length text.new.items) }
-    ensures stopped { IfErr result (StopsAs (AnswersBoth (AnswersJournal (record {
-      files = S.files shelf.old;
-      faults_before = S.faults shelf.old;
-      faults_after = S.faults shelf.new;
-      longs_before = S.longs shelf.old;
-      longs_after = S.longs shelf.new;
-    }) journal.now) (record {
-      files = S.files shelf.old;
-      faults_before = S.faults shelf.old;
-      faults_after = S.faults shelf.new;
-      longs_before = S.longs shelf.old;
-      longs_after = S.longs shelf.new;
-    }) spec.now sol.now) text.new.items) }
+    ensures ends { EndsAs (AnswersBoth (AnswersJournal (shelf_seen S.files S.faults S.longs shelf.old shelf.new) journal.now) (shelf_seen S.files S.faults S.longs shelf.old shelf.new) spec.now sol.now) text.new.items result }
+    ensures kept { KeepsShelf S.files S.faults S.longs S.may_ask shelf.old shelf.new }
 {
     let (spec, sol) = take_both(alloc, spec, sol, shelf, text)?;
     let system = system_of(alloc, &spec, &sol)?;

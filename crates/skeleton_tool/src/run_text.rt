@@ -9,7 +9,8 @@ use itoa::Buffer;
 use pair_structure::Name;
 use std::alloc::AllocError;
 
-/// Appends the text of a run of so many entries: each process where it is, with how often it fired, and each edge with its pair state.
+/// Appends the text of a run of so many entries: each process where it is, with how often it fired, and each edge with
+/// its pair state.
 pub(crate) fn write_run(
     system: &System,
     count: u64,

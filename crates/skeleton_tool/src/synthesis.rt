@@ -1,12 +1,12 @@
-ghost use Rattle.std.specs.Prelude.{◌≡◌, ◌<◌, ◌++◌, [], IfOk, IfErr, OnOk, length, codes};
+ghost use Rattle.std.specs.Prelude.{◌≡◌, ◌<◌, ◌++◌, [], IfOk, OnOk, length, codes};
 ghost use Rattle.skeleton_tool.specs.Answer.{AnswersSynth, AnswersKinds};
 ghost use Rattle.skeleton_tool.specs.Command.{spec_limit};
-ghost use Rattle.skeleton_tool.specs.Taking.{StopsAs};
+ghost use Rattle.skeleton_tool.specs.Taking.{shelf_seen, EndsAs, KeepsShelf};
 
+use crate::reading::take_spec;
 use crate::solving::solve_all;
 use crate::status::Status;
 use crate::stop::Stop;
-use crate::taking::take_spec;
 use ctl_form::PairSpec;
 use ctl_text::Spec;
 use edge_io::Shelf;
@@ -23,21 +23,8 @@ pub(crate) fn synth<S: Shelf>(
 ) -> Result<Status, Stop>
     requires allowed { S.may_ask shelf.old file.now spec_limit }
     requires empty { text.old.items ≡ [] }
-    ensures answer { IfOk result (λ status. AnswersSynth (record {
-      files = S.files shelf.old;
-      faults_before = S.faults shelf.old;
-      faults_after = S.faults shelf.new;
-      longs_before = S.longs shelf.old;
-      longs_after = S.longs shelf.new;
-    }) file.now status text.new.items) }
-    ensures some { IfOk result (λ status. 0 < length text.new.items) }
-    ensures stopped { IfErr result (StopsAs (AnswersSynth (record {
-      files = S.files shelf.old;
-      faults_before = S.faults shelf.old;
-      faults_after = S.faults shelf.new;
-      longs_before = S.longs shelf.old;
-      longs_after = S.longs shelf.new;
-    }) file.now) text.new.items) }
+    ensures ends { EndsAs (AnswersSynth (shelf_seen S.files S.faults S.longs shelf.old shelf.new) file.now) text.new.items result }
+    ensures kept { KeepsShelf S.files S.faults S.longs S.may_ask shelf.old shelf.new }
 {
     let spec = take_spec(alloc, file, shelf, text)?;
     let status = answer_kinds(alloc, &spec, text)?;

@@ -27,3 +27,6 @@ replay-requires-clause-sol g c = (all_asked (λ (file : List ℕ × ℕ). g.S.Sh
 
 pub replay-requires-clause-journal : goal.replay-requires-clause-journal
 replay-requires-clause-journal g c = (all_asked (λ (file : List ℕ × ℕ). g.S.Shelf.may_ask c.args.shelf.now file.0 file.1) (command_value c.args.command) c.in-Replay.spec.now c.in-Replay.sol.now c.in-Replay.journal.now (ap (λ x. asked_files (Some (command_value x))) c.in-Replay.is) c.requires.allowed).2
+
+pub returns-in-Replay-clause-ends : goal.returns-in-Replay-clause-ends
+returns-in-Replay-clause-ends g c = rw c.in-Replay.is c.replay.ensures.ends

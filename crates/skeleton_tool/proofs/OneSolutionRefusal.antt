@@ -1,0 +1,30 @@
+-- The bytes of a solution are refused by one text.
+use Rattle.std.proofs.Common.{ℕ, ◌≡◌, ◌+◌, ◌∙◌, inl, inr, List, [], ◌∷◌, sym, ap, subst}
+use Rattle.strict_text.specs.Lines.{Line, lines_of}
+use Rattle.pair_structure.specs.Role.{RoleParts}
+use Rattle.ctl_form.specs.declared.pair_spec.PairSpec.{PairSpec}
+use Rattle.ctl_text.specs.declared.cause.TextCause.{TextCause}
+use Rattle.ctl_text.specs.Cause.{cause_no}
+use Rattle.solution_text.specs.Cause.{Stands}
+use Rattle.solution_text.specs.State.{State, Group, first_state, before_head, among_kinds, in_kind, after_done}
+use Rattle.solution_text.specs.Text.{EndOfText, IsRefused, RefusedAt}
+use Rattle.solution_text.proofs.TextLaws.{takes_once}
+use Rattle.skeleton_tool.specs.Refusal.{refused_text}
+use Rattle.skeleton_tool.proofs.OneRefusal.{lowest_once, same_refusal}
+
+end_once : (g : Group) (c d : TextCause) → EndOfText g c → EndOfText g d → cause_no c ≡ cause_no d
+end_once before_head c d a b = ap cause_no (a ∙ sym b)
+end_once among_kinds c d a b = ap cause_no (a ∙ sym b)
+end_once (in_kind role other states moves) c d a b = ap cause_no (a ∙ sym b)
+end_once after_done c d a b = absurd a
+
+refused_at_once : (roles : List RoleParts) (s : State) (n : ℕ) (lines : List Line) (line at : ℕ) (c d : TextCause) → RefusedAt roles s n lines line c → RefusedAt roles s n lines at d → (line ≡ at) × (cause_no c ≡ cause_no d)
+refused_at_once roles s n [] line at c d a b = (a.0 ∙ sym b.0, end_once s.group c d a.1 b.1)
+refused_at_once roles s n (here ∷ lines) line at c d (inl a) (inl b) = (a.0 ∙ sym b.0, lowest_once (Stands s here) c d a.1 b.1)
+refused_at_once roles s n (here ∷ lines) line at c d (inl a) (inr (u, b, others)) = absurd (b.free.free c a.1.stands)
+refused_at_once roles s n (here ∷ lines) line at c d (inr (t, a, more)) (inl b) = absurd (a.free.free d b.1.stands)
+refused_at_once roles s n (here ∷ lines) line at c d (inr (t, a, more)) (inr (u, b, others)) =
+    refused_at_once roles t (n + 1) lines line at c d more (subst (λ u. RefusedAt roles u (n + 1) lines at d) (takes_once roles s here u t b a) others)
+
+pub solution_refused_once : (roles : List RoleParts) (kinds : List PairSpec) (word bytes : List ℕ) (line at : ℕ) (c d : TextCause) → IsRefused roles kinds bytes line c → IsRefused roles kinds bytes at d → refused_text word line c ≡ refused_text word at d
+solution_refused_once roles kinds word bytes line at c d a b = same_refusal word line at c d (refused_at_once roles (first_state kinds) 1 (lines_of bytes) line at c d a b)

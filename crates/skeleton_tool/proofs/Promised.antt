@@ -1,0 +1,142 @@
+-- What a call promises of each command follows from its outcome.
+use Rattle.std.proofs.Common.{ℕ, ◌≡◌, ◌⊎◌, ◌∙◌, inl, inr, Some, List, sym, subst, ap, refl}
+use Rattle.std.specs.Prelude.{◌==◌, if◌then◌else◌}
+use Rattle.edge_io.specs.Told.{Appends}
+use Rattle.pair_structure.specs.Structure.{Structure}
+use Rattle.conjunctive_compose.specs.System.{SystemParts}
+use Rattle.firing_journal.specs.declared.journal.Entry.{Entry}
+use Rattle.firing_journal.specs.Journal.{wishes_of}
+use Rattle.ctl_form.specs.Kind.{Solves}
+use Rattle.ctl_text.specs.Value.{SpecParts}
+use Rattle.skeleton_tool.specs.declared.status.Status.{Status}
+use Rattle.skeleton_tool.specs.declared.status.Status.TheVariants.{Done, Usage, Refused, Unsatisfiable, Fails, ReadFault, WriteFault, OutOfMemory}
+use Rattle.skeleton_tool.specs.Answer.{SinkSeen, AnswersBoth, AnswersCommand, AnswersKinds, IsOutcome, IsPlanned, Proves, spec_grammar, solution_grammar}
+use Rattle.skeleton_tool.specs.Command.{Command, synth, prove, skel, replay, command_of}
+use Rattle.skeleton_tool.specs.Failing.{NamesFailing}
+use Rattle.skeleton_tool.specs.Headline.{IsCalled, Promises, ProveJudges, ReplayTells, SkelShows, SynthFindsNone, SynthSolves}
+use Rattle.skeleton_tool.specs.Reading.{Grammar, IsTold, IsUnread, ReadsAndAnswers}
+use Rattle.skeleton_tool.specs.Replay.{AnswersJournal, IsSystemOf, Replays, TellsRun, TellsStuck, journal_grammar}
+use Rattle.skeleton_tool.specs.Skel.{Skels}
+use Rattle.skeleton_tool.specs.Status.{code_of}
+use Rattle.skeleton_tool.specs.Taking.{ShelfSeen, IsUntaken}
+use Rattle.skeleton_tool.proofs.OneSystem.{one_system}
+use Rattle.skeleton_tool.proofs.Told.{answers_command, both_told, reads_told}
+
+-- the status of a number
+abbrev status_of : ℕ → Status
+status_of n =
+    if n == 0 then Done else if n == 1 then Usage else if n == 2 then Refused else if n == 3 then Unsatisfiable else if n == 4 then Fails else if n == 5 then ReadFault else if n == 6 then WriteFault else OutOfMemory
+
+status_of-code_of : (status : Status) → status_of (code_of status) ≡ status
+status_of-code_of Done = refl
+status_of-code_of Usage = refl
+status_of-code_of Refused = refl
+status_of-code_of Unsatisfiable = refl
+status_of-code_of Fails = refl
+status_of-code_of ReadFault = refl
+status_of-code_of WriteFault = refl
+status_of-code_of OutOfMemory = refl
+
+-- a command's own status, which no file that is not read has
+abbrev IsOwn : Status → Type 0
+IsOwn Done = Unit {0}
+IsOwn Unsatisfiable = Unit {0}
+IsOwn Fails = Unit {0}
+IsOwn status = ⊥
+
+untaken : (shelf : ShelfSeen) (word file : List ℕ) (max : ℕ) (status : Status) (text : List ℕ) → IsOwn status → IsUntaken shelf word file max status text → ⊥
+untaken shelf word file max Done text own h = h
+untaken shelf word file max Unsatisfiable text own h = h
+untaken shelf word file max Fails text own h = h
+untaken shelf word file max status text own h = own
+
+unread : {V : Type 0} (grammar : Grammar V) (shelf : ShelfSeen) (file : List ℕ) (status : Status) (text : List ℕ) → IsOwn status → IsUnread grammar shelf file status text → ⊥
+unread grammar shelf file status text own (inl h) = untaken shelf grammar.word file grammar.limit status text own h
+unread grammar shelf file status text own (inr h) = subst IsOwn h.0 own
+
+-- with such a status the command's own answer was written
+written : (words : List (List ℕ)) (shelf : ShelfSeen) (sink : SinkSeen) (command : Command) (status : Status) → command_of words ≡ Some command → IsOwn status → IsOutcome words shelf sink status → (text : List ℕ) × AnswersCommand shelf command status text × Appends sink.before sink.after text
+written words shelf sink command Done is own h = (h.0, answers_command words shelf Done h.0 command is h.1, h.2)
+written words shelf sink command Unsatisfiable is own h = (h.0, answers_command words shelf Unsatisfiable h.0 command is h.1, h.2)
+written words shelf sink command Fails is own h = (h.0, answers_command words shelf Fails h.0 command is h.1, h.2)
+written words shelf sink command status is own h = absurd own
+
+own_answer : (words : List (List ℕ)) (shelf : ShelfSeen) (sink : SinkSeen) (code : ℕ) (command : Command) (status : Status) → IsPlanned words shelf sink code → command_of words ≡ Some command → code ≡ code_of status → IsOwn status → (text : List ℕ) × AnswersCommand shelf command status text × Appends sink.before sink.after text
+own_answer words shelf sink code command status (other, other_is, outcome) is code_is own =
+    let same : other ≡ status = sym (status_of-code_of other) ∙ ap status_of (sym other_is ∙ code_is) ∙ status_of-code_of status in
+    written words shelf sink command status is own (subst (IsOutcome words shelf sink) same outcome)
+
+kinds_answer : (words : List (List ℕ)) (shelf : ShelfSeen) (sink : SinkSeen) (code : ℕ) (status : Status) (files : List (List ℕ × List ℕ)) (spec : List ℕ) (v : SpecParts)
+    → IsPlanned words shelf sink code → IsCalled words shelf (synth spec) files → IsTold spec_grammar files spec v → code ≡ code_of status → IsOwn status → (text : List ℕ) × AnswersKinds v.roles v.kinds status text × Appends sink.before sink.after text
+kinds_answer words shelf sink code status files spec v planned called told code_is own =
+    let own_is = own_answer words shelf sink code (synth spec) status planned called.command_is code_is own in
+    (own_is.0, reads_told spec_grammar (λ u. AnswersKinds u.roles u.kinds) shelf files spec v status own_is.0 called.told (unread spec_grammar shelf spec status own_is.0 own) told own_is.1, own_is.2)
+
+synth_solves : (words : List (List ℕ)) (shelf : ShelfSeen) (sink : SinkSeen) (code : ℕ) → IsPlanned words shelf sink code → SynthSolves words shelf sink code
+synth_solves words shelf sink code planned files spec v called told is = kinds_answer words shelf sink code Done files spec v planned called told is tt
+
+synth_finds_none : (words : List (List ℕ)) (shelf : ShelfSeen) (sink : SinkSeen) (code : ℕ) → IsPlanned words shelf sink code → SynthFindsNone words shelf sink code
+synth_finds_none words shelf sink code planned files spec v called told is = kinds_answer words shelf sink code Unsatisfiable files spec v planned called told is tt
+
+both_own : (answers : SpecParts → List Structure → Status → List ℕ → Type 0) (shelf : ShelfSeen) (files : List (List ℕ × List ℕ)) (spec sol : List ℕ) (v : SpecParts) (structures : List Structure) (status : Status) (text : List ℕ)
+    → shelf.files ≡ Some files → IsOwn status → IsTold spec_grammar files spec v → IsTold (solution_grammar v) files sol structures → AnswersBoth answers shelf spec sol status text → answers v structures status text
+both_own answers shelf files spec sol v structures status text told own spec_is sol_is h =
+    both_told answers shelf files spec sol v structures status text told (unread spec_grammar shelf spec status text own) (unread (solution_grammar v) shelf sol status text own) spec_is sol_is h
+
+prove_judges : (words : List (List ℕ)) (shelf : ShelfSeen) (sink : SinkSeen) (code : ℕ) → IsPlanned words shelf sink code → ProveJudges words shelf sink code
+prove_judges words shelf sink code planned files spec sol v structures called spec_is sol_is = (
+  λ is.
+      (let own = own_answer words shelf sink code (prove spec sol) Done planned called.command_is is tt in
+      let proves = both_own Proves shelf files spec sol v structures Done own.0 called.told tt spec_is sol_is own.1 in
+      (proves.0, (own.0, proves.1, own.2))),
+  λ is.
+      (let own = own_answer words shelf sink code (prove spec sol) Fails planned called.command_is is tt in
+      (own.0, both_own Proves shelf files spec sol v structures Fails own.0 called.told tt spec_is sol_is own.1, own.2)),
+)
+
+skel_shows : (words : List (List ℕ)) (shelf : ShelfSeen) (sink : SinkSeen) (code : ℕ) → IsPlanned words shelf sink code → SkelShows words shelf sink code
+skel_shows words shelf sink code planned files spec sol v structures called spec_is sol_is = (
+  λ is.
+      (let own = own_answer words shelf sink code (skel spec sol) Done planned called.command_is is tt in
+      let shows = both_own Skels shelf files spec sol v structures Done own.0 called.told tt spec_is sol_is own.1 in
+      (shows.0, (own.0, shows.1, own.2))),
+  λ is.
+      (let own = own_answer words shelf sink code (skel spec sol) Fails planned called.command_is is tt in
+      (own.0, both_own Skels shelf files spec sol v structures Fails own.0 called.told tt spec_is sol_is own.1, own.2)),
+)
+
+replays_own : (shelf : ShelfSeen) (files : List (List ℕ × List ℕ)) (spec sol journal : List ℕ) (v : SpecParts) (structures : List Structure) (sys : SystemParts) (entries : List Entry) (status : Status) (text : List ℕ)
+    → shelf.files ≡ Some files → IsOwn status → IsTold spec_grammar files spec v → IsTold (solution_grammar v) files sol structures → IsSystemOf v structures sys → IsTold (journal_grammar sys) files journal entries → AnswersBoth (AnswersJournal shelf journal) shelf spec sol status text
+    → Replays v structures sys (wishes_of entries) status text
+replays_own shelf files spec sol journal v structures sys entries status text told own spec_is sol_is system journal_is h =
+    let (other, other_is, behind) = both_own (AnswersJournal shelf journal) shelf files spec sol v structures status text told own spec_is sol_is h in
+    let here = subst (λ (s : SystemParts). ReadsAndAnswers (journal_grammar s) (λ every. Replays v structures s (wishes_of every)) shelf journal status text) (one_system v structures other sys other_is system) behind in
+    reads_told (journal_grammar sys) (λ every. Replays v structures sys (wishes_of every)) shelf files journal entries status text told (unread (journal_grammar sys) shelf journal status text own) journal_is here
+
+done_runs : (v : SpecParts) (structures : List Structure) (sys : SystemParts) (entries : List Entry) (text : List ℕ) → Replays v structures sys (wishes_of entries) Done text → Solves v.roles v.kinds structures × TellsRun sys (wishes_of entries) text
+done_runs v structures sys entries text (inl h) = h
+done_runs v structures sys entries text (inr h) = absurd (let e : Done ≡ Fails = h.0 in cc)
+
+fails_so : (v : SpecParts) (structures : List Structure) (sys : SystemParts) (entries : List Entry) (text : List ℕ) → Replays v structures sys (wishes_of entries) Fails text → (Solves v.roles v.kinds structures × TellsStuck sys (wishes_of entries) text) ⊎ NamesFailing v structures text
+fails_so v structures sys entries text (inl h) = inl h
+fails_so v structures sys entries text (inr h) = inr h.1
+
+replay_tells : (words : List (List ℕ)) (shelf : ShelfSeen) (sink : SinkSeen) (code : ℕ) → IsPlanned words shelf sink code → ReplayTells words shelf sink code
+replay_tells words shelf sink code planned files spec sol journal v structures sys entries called spec_is sol_is system journal_is = (
+  λ is.
+      (let own = own_answer words shelf sink code (replay spec sol journal) Done planned called.command_is is tt in
+      let runs = done_runs v structures sys entries own.0 (replays_own shelf files spec sol journal v structures sys entries Done own.0 called.told tt spec_is sol_is system journal_is own.1) in
+      (runs.0, (own.0, runs.1, own.2))),
+  λ is.
+      (let own = own_answer words shelf sink code (replay spec sol journal) Fails planned called.command_is is tt in
+      (own.0, fails_so v structures sys entries own.0 (replays_own shelf files spec sol journal v structures sys entries Fails own.0 called.told tt spec_is sol_is system journal_is own.1), own.2)),
+)
+
+pub promises : (words : List (List ℕ)) (shelf : ShelfSeen) (sink : SinkSeen) (code : ℕ) → IsPlanned words shelf sink code → Promises words shelf sink code
+promises words shelf sink code planned = record {
+  synth_solves = synth_solves words shelf sink code planned;
+  synth_finds_none = synth_finds_none words shelf sink code planned;
+  prove_judges = prove_judges words shelf sink code planned;
+  skel_shows = skel_shows words shelf sink code planned;
+  replay_tells = replay_tells words shelf sink code planned;
+}
