@@ -111,8 +111,9 @@ fn positions(alloc: Global) -> Result<Vec<Position>, Fail> {
 fn numbers_told(alloc: Global) -> Result<String, Fail> {
     let mut table = NodeTable::new(alloc);
     let first = table.number(Position { node: 7, place: 1 })?;
+    let given = positions(alloc)?;
     let mut numbers = Vec::new(alloc);
-    for position in &positions(alloc)? {
+    for position in &given {
         numbers.push(table.number(*position)?)?;
     }
     let count = table.nodes().len();
