@@ -111,7 +111,11 @@ fn positions(alloc: Global) -> Result<Vec<Position>, Fail> {
 fn numbers_told(alloc: Global) -> Result<String, Fail> {
     let mut table = NodeTable::new(alloc);
     let first = table.number(Position { node: 7, place: 1 })?;
-    let numbers = table.number_each(alloc, &positions(alloc)?)?;
+    let given = positions(alloc)?;
+    let mut numbers = Vec::new(alloc);
+    for position in &given {
+        numbers.push(table.number(*position)?)?;
+    }
     let count = table.nodes().len();
     let nodes = table.into_nodes();
     Ok(format!(in alloc; "{first} {:?} {count} {}", numbers.as_slice(), nodes.len())?)

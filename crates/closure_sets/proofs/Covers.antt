@@ -1,5 +1,6 @@
 -- The rows cover.
 use Rattle.std.proofs.Common.{ℕ, zero, suc, ◌≡◌, ◌⊎◌, ◌<◌, ◌≤◌, inl, inr, Bool, true, false, ◌||◌, not, Option, Some, None, List, [], ◌∷◌, arith, refl, subst, sym}
+use Rattle.std.proofs.lemmas.Bool.{and_parts, not-true}
 use Rattle.pair_structure.specs.declared.side.Side.{Side}
 use Rattle.pair_structure.specs.declared.side.Side.TheVariants.{A, B}
 use Rattle.ctl_form.specs.declared.part.Part.{Part}
@@ -10,7 +11,7 @@ use Rattle.closure_sets.specs.Expansion.{later_rows, ways, lowest, is_open, fini
 use Rattle.closure_sets.specs.Full.{Among}
 use Rattle.closure_sets.specs.Label.{part_of}
 use Rattle.closure_sets.specs.Row.{Members, add}
-use Rattle.closure_sets.proofs.Sets.{both_true, not_true, both_false, add_keeps, add_same, add_back, pick_case, among_map, among_of, IsLowest, lowest_is, untreated, untreated_less, all_treated, untreated_all}
+use Rattle.closure_sets.proofs.Sets.{both_false, add_keeps, add_same, add_back, pick_case, among_map, among_of, IsLowest, lowest_is, untreated, untreated_less, all_treated, untreated_all}
 
 -- what truth at one state gives of each member; chosen: the side of an E until that is true and not met
 pub record IsTruth (c : ClosureParts) (easy : ℕ → Bool) (clash : Members → Bool) (chosen : ℕ → Side) (Is : ℕ → Type 0) : Type 0 where
@@ -150,7 +151,7 @@ module _ (c : ClosureParts) (easy : ℕ → Bool) (clash : Members → Bool) (ch
 
   at_lowest_met : (row treated : Members) (o : Option ℕ) (f : ℕ → List Members) → IsLowest (count c) (is_open row treated) o → IsMet c chosen Is row treated → ((m : ℕ) → m < count c → row m ≡ true → treated m ≡ false → Among (IsMetRow c chosen Is) (f m)) → Among (IsMetRow c chosen Is) (at_lowest o (finish c row) f)
   at_lowest_met row treated None f l h go = finish_met row (whole row treated (λ i lt e. both_false (row i) (treated i) (l i lt) e) h)
-  at_lowest_met row treated (Some m) f l h go = let u = both_true (row m) (not (treated m)) l.1 in go m l.0 u.0 (not_true (treated m) u.1)
+  at_lowest_met row treated (Some m) f l h go = let u = and_parts (row m) (not (treated m)) l.1 in go m l.0 u.0 (not-true (treated m) u.1)
 
   expand_met : (d : ℕ) (row treated : Members) → untreated (count c) treated ≤ d → IsMet c chosen Is row treated → Among (IsMetRow c chosen Is) (expand c easy clash d row treated)
   expand_met zero row treated le h = pick_case (Among (IsMetRow c chosen Is)) (clash row) [] _ (λ bad. absurd (t.consistent row h.holds bad)) (λ _. finish_met row (whole row treated (λ i lt _. all_treated (count c) treated le i lt) h))

@@ -1,5 +1,6 @@
 -- Rows told apart by their words.
 use Rattle.std.proofs.Common.{ℕ, suc, ◌≡◌, ◌≢◌, ◌⊎◌, ◌<◌, ◌+◌, ◌*◌, ◌/◌, ◌%◌, ◌||◌, ◌++◌, inl, inr, Bool, true, false, cond, List, [], ◌∷◌, refl, subst, sym, ◌∙◌, ap, arith, eqb, eqb-true, eq-eqb, slice_index, All}
+use Rattle.std.proofs.lemmas.Bool.{or_cases, or_left, or_right}
 use Rattle.std.proofs.Math.Decide.{ℕ_discrete}
 use Rattle.std.specs.BTreeMap.{is_at}
 use Rattle.std.specs.BTreeSet.{BTreeSet, contains}
@@ -71,20 +72,9 @@ row_back r q = both_ways (is_at (row_cmp r) q) (is_at (row_cmp q) r) (λ e. turn
     turned : (x y : Row) → x ≡ y → is_at (row_cmp y) x ≡ true
     turned x y e = subst (λ (z : Row). is_at (row_cmp z) x ≡ true) e (row_itself x)
 
-or_back : (a b : Bool) → a || b ≡ true → (a ≡ true) ⊎ (b ≡ true)
-or_back true b e = inl refl
-or_back false b e = inr e
-
-or_right : (a b : Bool) → b ≡ true → a || b ≡ true
-or_right true b e = refl
-or_right false b e = e
-
-or_left : (a b : Bool) → a ≡ true → a || b ≡ true
-or_left a b e = rw e refl
-
 any_stands : (rows : List Row) (row : Row) → list_any (is_at (row_cmp row)) rows ≡ true → Stands (sets_of rows) (set_of row.words)
 any_stands [] row e = absurd (let f : false ≡ true = e in cc)
-any_stands (r ∷ rs) row e = elim (or_back (is_at (row_cmp row) r) (list_any (is_at (row_cmp row)) rs) e) [ inl f ↦ inl (let q : row ≡ r = row_exact row r f in ap (λ (x : Row). set_of x.words) (sym q)) | inr f ↦ inr (any_stands rs row f) ]
+any_stands (r ∷ rs) row e = elim (or_cases (is_at (row_cmp row) r) (list_any (is_at (row_cmp row)) rs) e) [ inl f ↦ inl (let q : row ≡ r = row_exact row r f in ap (λ (x : Row). set_of x.words) (sym q)) | inr f ↦ inr (any_stands rs row f) ]
 
 stands_any : (rows : List Row) (row : Row) → All HasWords rows → HasWords row → Stands (sets_of rows) (set_of row.words) → list_any (is_at (row_cmp row)) rows ≡ true
 stands_any [] row all fits h = absurd h

@@ -1,5 +1,6 @@
 -- What a label tells of members is so at each state that has it.
 use Rattle.std.proofs.Common.{ℕ, ◌≡◌, ◌⊎◌, ◌<◌, inl, inr, Bool, true, false, not, ◌&&◌, Option, Some, None, is_some, List, length, refl, subst, sym, ◌∙◌, ap, eqb, eqb-true, eq-eqb, slice_get}
+use Rattle.std.proofs.lemmas.Bool.{and_parts}
 use Rattle.std.proofs.lemmas.Option.{slice_get-get_or}
 use Rattle.pair_structure.specs.Structure.{Structure, label_at}
 use Rattle.pair_structure.specs.declared.side.Side.{Side}
@@ -16,7 +17,7 @@ use Rattle.closure_sets.specs.Label.{part_of, form_of, is_local, value, not_valu
 use Rattle.closure_sets.specs.Row.{Members}
 use Rattle.closure_sets.proofs.Closures.{form_is}
 use Rattle.closure_sets.proofs.FullRows.{AreRight, rows_are_full}
-use Rattle.closure_sets.proofs.Sets.{IsLowest, lowest_is, both_true}
+use Rattle.closure_sets.proofs.Sets.{IsLowest, lowest_is}
 
 -- what a truth value says of a fact
 abbrev Tells : Option Bool → Type 0 → Type 0
@@ -123,7 +124,7 @@ none_lowest n p None h e = h
 pub clash_false : (m : Structure) (c : ClosureParts) → IsClosureParts c → (s : ℕ) → s < length m.states → (label : ℕ × ℕ) → label_at m.states s ≡ label → (row : Members) → ((i : ℕ) → row i ≡ true → Holds m (form_of c i) s) → clashes c label row ≡ true → ⊥
 clash_false m c k s lt label labelled row h e =
     let u = some_lowest (count c) (is_shared row (wrong_of c label)) (lowest (count c) (is_shared row (wrong_of c label))) (lowest_is (count c) (is_shared row (wrong_of c label))) e in
-    let w = both_true (row u.0) (wrong_of c label u.0) u.2 in
+    let w = and_parts (row u.0) (wrong_of c label u.0) u.2 in
     wrong_part m s label (label_read m s lt ∙ ap (λ l. Some l) labelled) (forms_of c.parts) (part_of c u.0) w.1 (subst (λ f. Holds m f s) (form_is c k u.0 u.1) (h u.0 w.0))
 
 has_not : (a b : Bool) → a && b ≡ false → a ≡ true → b ≡ false

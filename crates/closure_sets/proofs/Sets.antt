@@ -1,5 +1,6 @@
 -- Rows as sets, and what stands among rows.
 use Rattle.std.proofs.Common.{ℕ, zero, suc, ◌≡◌, ◌⊎◌, ◌<◌, ◌≤◌, inl, inr, Bool, true, false, ◌||◌, ◌&&◌, not, Option, Some, None, List, [], ◌∷◌, ◌++◌, eqb, eq-eqb, eqb-true, arith, refl, subst, sym}
+use Rattle.std.proofs.lemmas.Bool.{or_cases, or_left, or_right}
 use Rattle.std.proofs.Math.Decide.{dec_lt, ℕ_discrete}
 use Rattle.closure_sets.specs.Expansion.{pick, lowest, or_last, rows_of}
 use Rattle.closure_sets.specs.Full.{Among}
@@ -14,28 +15,6 @@ abbrev pub untreated : ℕ → Members → ℕ
 untreated zero treated = 0
 untreated (suc n) treated = one_more (treated n) (untreated n treated)
 
-or_back : (a b : Bool) → a || b ≡ true → (a ≡ true) ⊎ (b ≡ true)
-or_back true b e = inl refl
-or_back false b e = inr e
-
-or_right : (a b : Bool) → b ≡ true → a || b ≡ true
-or_right true b e = refl
-or_right false b e = e
-
-or_left : (a b : Bool) → a ≡ true → a || b ≡ true
-or_left a b e = rw e refl
-
-pub or_true : (a b : Bool) → a || b ≡ true → (a ≡ true) ⊎ (b ≡ true)
-or_true = or_back
-
-pub both_true : (a b : Bool) → a && b ≡ true → (a ≡ true) × (b ≡ true)
-both_true true b e = (refl, e)
-both_true false b e = absurd (let f : false ≡ true = e in cc)
-
-pub not_true : (a : Bool) → not a ≡ true → a ≡ false
-not_true true e = absurd (let f : false ≡ true = e in cc)
-not_true false e = refl
-
 pub both_false : (a b : Bool) → a && not b ≡ false → a ≡ true → b ≡ true
 both_false true true e f = refl
 both_false true false e f = absurd (let g : true ≡ false = e in cc)
@@ -48,7 +27,7 @@ pub add_same : (row : Members) (m : ℕ) → add row m m ≡ true
 add_same row m = or_left (eqb m m) (row m) (eq-eqb m m refl)
 
 pub add_back : (row : Members) (m i : ℕ) → add row m i ≡ true → (i ≡ m) ⊎ (row i ≡ true)
-add_back row m i e = elim (or_back (eqb i m) (row i) e) [ inl f ↦ inl (eqb-true i m f) | inr f ↦ inr f ]
+add_back row m i e = elim (or_cases (eqb i m) (row i) e) [ inl f ↦ inl (eqb-true i m f) | inr f ↦ inr f ]
 
 pub pick_case : (Z : List Members → Type 0) (b : Bool) (xs ys : List Members) → (b ≡ true → Z xs) → (b ≡ false → Z ys) → Z (pick b xs ys)
 pick_case Z true xs ys f g = f refl

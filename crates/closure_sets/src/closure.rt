@@ -1,5 +1,7 @@
 ghost use Rattle.std.specs.Prelude.{◌≡◌, ◌<◌, ◌≤◌, ℕ, false, length, All, IfOk, MatchOption};
+ghost use Rattle.ctl_form.specs.MemberTable.{IsNumbering};
 ghost use Rattle.ctl_form.specs.Members.{part_at};
+ghost use Rattle.ctl_form.specs.NormalParts.{AreNormalParts};
 ghost use Rattle.closure_sets.specs.ClosureParts.{ClosureParts, IsClosureParts, HasPart, IsNextOf, IsNextAt, AreNexts, after, some_move};
 ghost use Rattle.ctl_form.specs.declared.part.Part.TheVariants.{Yes};
 
@@ -40,7 +42,7 @@ impl Closure {
         let roots = Vec::from_slice(alloc, form.roots())?;
         let after_a = nexts(alloc, form, Side::A)?;
         let after_b = nexts(alloc, form, Side::B)?;
-        let _numbered = form.count();
+        tell_numbering(form);
         let truth = truth_of(form);
         let some_a = move_of(form, truth, Side::A);
         let some_b = move_of(form, truth, Side::B);
@@ -60,6 +62,13 @@ impl Closure {
         ensures closure { IsClosureParts self.now }
     {
         self.parts.len() as u32
+    }
+
+    /// Tells a proof that this is a closure: members are numbered, and it has their next-times. It does nothing.
+    pub fn tell_members(&self)
+        ensures { IsClosureParts self.now }
+    {
+        let _parts = &self.parts;
     }
 
     /// The root of each conjunct, in their order.
@@ -162,7 +171,7 @@ fn next_of(form: &Normal, member: u32, side: Side) -> u32
     requires { member < length form.now.parts }
     ensures { IsNextAt form.now.parts side member result }
 {
-    let _grown = form.count();
+    tell_numbering(form);
     match form.part(member) {
         Part::Until { all, .. } => member_with(
             form,
@@ -179,7 +188,7 @@ fn next_of(form: &Normal, member: u32, side: Side) -> u32
 fn truth_of(form: &Normal) -> u32
     ensures { (result < length form.now.parts) × (part_at form.now.parts result ≡ Yes) }
 {
-    let _opened = form.count();
+    tell_numbering(form);
     member_with(form, Part::Yes)
 }
 
@@ -188,7 +197,7 @@ fn move_of(form: &Normal, truth: u32, side: Side) -> u32
     requires truth { part_at form.now.parts truth ≡ Yes }
     ensures { IsNextOf form.now.parts false side truth result }
 {
-    let _opened = form.count();
+    tell_numbering(form);
     member_with(
         form,
         Part::Next {
@@ -208,4 +217,12 @@ fn member_with(form: &Normal, part: Part) -> u32
         Some(member) => member,
         None => 0,
     }
+}
+
+/// Tells a proof that the members of a normal form are numbered, and that its roots and what an expansion adds are members. It does nothing else.
+fn tell_numbering(form: &Normal)
+    ensures numbering { IsNumbering form.now.parts }
+    ensures closed { AreNormalParts form.now.parts form.now.roots }
+{
+    let _count = form.count();
 }

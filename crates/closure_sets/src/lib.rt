@@ -1,4 +1,4 @@
-//! Rows of a closure's members that cover what the states of a pair structure make true.
+//! Fully expanded rows of a closure's members: at each state with the label where the seed is true, some row is wholly true.
 #![tactic(auto)]
 
 mod closure;

@@ -27,7 +27,7 @@ pub(crate) fn ways_of(c: &Closure, marks: &Marks, row: &Row, member: u32) -> Way
     requires member { member < count c.now }
     ensures { ways_rows result ≡ ways c.now (is_plain c.now (marks.now.a, marks.now.b)) (set_of row.now.words) member (part_of c.now member) }
 {
-    let _closure = c.count();
+    c.tell_members();
     match c.part(member) {
         Part::Both { f, g } => one(row.with(f).with(g)),
         Part::Either { f, g } => either_ways(c, marks, row, f, g),

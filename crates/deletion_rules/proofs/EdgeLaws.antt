@@ -1,5 +1,6 @@
 -- Edges put down the other way round, one after the other.
 use Rattle.std.proofs.Common.{ℕ, suc, ◌≡◌, ◌⊎◌, ◌<◌, ◌≤◌, ◌+◌, ◌++◌, inl, inr, true, false, List, [], ◌∷◌, Contains, length, refl, subst, sym, ◌∙◌, ap, add-one, arith, slice_index_or}
+use Rattle.std.proofs.lemmas.Bool.{and_parts, and_from}
 use Rattle.std.proofs.Math.Decide.{dec_lt, ℕ_discrete}
 use Rattle.std.proofs.lemmas.Grind.{get_or_default_zero}
 use Rattle.std.proofs.lemmas.List.Elements.{Contains-append_left, Contains-append_right, Contains-push_cases}
@@ -12,7 +13,7 @@ use Rattle.tableau_graph.specs.TableauParts.{TableauParts, and_at, edges_at, is_
 use Rattle.deletion_rules.specs.Edges.{arrow_of, is_next, AreArrows, AreParents, IsArrow, IsParent, Leads}
 use Rattle.deletion_rules.specs.Lists.{list_at, AreEmpty, StandsBefore}
 use Rattle.deletion_rules.specs.declared.edges.Arrow.{Arrow}
-use Rattle.deletion_rules.proofs.Seen.{both_of, next_of_part, of_both}
+use Rattle.deletion_rules.proofs.Seen.{next_of_part}
 use Rattle.deletion_rules.proofs.Within.{next_below}
 use Rattle.deletion_rules.proofs.Standing.{no_yes, none_before, stands_all, stands_cases, stands_here, stands_in, stands_more}
 
@@ -87,12 +88,12 @@ arrow_begin t n arrows h = record { long = h.long; each = h.each; old = h.all; n
 -- a member that is some EXs h
 leads_next : (t : TableauParts) (n i : ℕ) → n < length t.ands → is_next t n i ≡ true → Leads t n i ((graph_of t).next_or n i)
 leads_next t n i small e =
-    let b = both_of (row_of (and_at t.ands n) i) (is_some_next (part_of t.closure i)) e in
+    let b = and_parts (row_of (and_at t.ands n) i) (is_some_next (part_of t.closure i)) e in
     let p = next_of_part (part_of t.closure i) b.1 in
     ((p.0, p.1, record { node = small; member = b.0; part = p.2 }), refl)
 
 next_leads : (t : TableauParts) (n i o : ℕ) → Leads t n i o → is_next t n i ≡ true
-next_leads t n i o l = of_both (row_of (and_at t.ands n) i) (is_some_next (part_of t.closure i)) l.0.2.member (ap is_some_next l.0.2.part)
+next_leads t n i o l = and_from (row_of (and_at t.ands n) i) (is_some_next (part_of t.closure i)) l.0.2.member (ap is_some_next l.0.2.part)
 
 pub arrow_step : (t : TableauParts) (n i o : ℕ) (arrows more : List (List Arrow)) → n < length t.ands → is_next t n i ≡ true → o ≡ (graph_of t).next_or n i → AddsArrows t n i arrows → Grows arrows more o (arrow_of n i) → AddsArrows t n (i + 1) more
 arrow_step t n i o arrows more small e at h g = record {

@@ -1,5 +1,6 @@
 -- What the rules leave of the nodes, by the marks of their strong untils.
 use Rattle.std.proofs.Common.{ℕ, zero, suc, ◌≡◌, ◌⊎◌, ◌<◌, ◌+◌, ◌++◌, inl, inr, Bool, true, false, ◌&&◌, Option, Some, None, is_none, List, [], ◌∷◌, Contains, length, length-append, refl, subst, sym, ◌∙◌, ap, arith}
+use Rattle.std.proofs.lemmas.Bool.{and_parts}
 use Rattle.std.proofs.Math.Decide.{dec_lt}
 use Rattle.std.proofs.lemmas.List.{get_or_append_left, get_or_push}
 use Rattle.std.proofs.lemmas.List.Elements.{Contains-append_left, Contains-append_right, Contains-push_cases}
@@ -17,8 +18,10 @@ use Rattle.tableau_graph.specs.Rules.{IsTableau}
 use Rattle.tableau_graph.specs.TableauParts.{TableauParts}
 use Rattle.deletion_rules.specs.Deletion.{SomeChild, HasLower, Fulfilled, IsStrong, IsSupported}
 use Rattle.deletion_rules.specs.Marks.{lives_of, mark_at, marks_at, rank_of, ranks_of, AreLeft, AreMarks, AreTable, IsLeft, IsSeen}
-use Rattle.deletion_rules.specs.Tests.{is_missing, is_strong, lives_on, lives_or, AreLivingOrs, AreStrongs}
-use Rattle.deletion_rules.proofs.Seen.{both_of, lives_on_in, lives_on_out}
+use Rattle.deletion_rules.specs.Targets.{AreTargets, IsTarget}
+use Rattle.deletion_rules.specs.Tests.{is_missing, lives_on, lives_or, AreLivingOrs, NoneMissing}
+use Rattle.deletion_rules.specs.declared.target.Target.{Target}
+use Rattle.deletion_rules.proofs.Seen.{lives_on_in, lives_on_out}
 use Rattle.deletion_rules.proofs.Survive.{full_until}
 
 after_of : (c : ClosureParts) (g : Graph) (n u : ℕ) → Has (g.row n) (after c A u) → Has (g.row n) (after c B u) → (side : Side) → Has (g.row n) (after c side u)
@@ -62,16 +65,6 @@ module _ (c : ClosureParts) (k : IsClosureParts c) (g : Graph) (ok : IsGraph c g
   fulfilled_marked true p marks h = each_marked marks p h
   fulfilled_marked false p marks h = some_marked marks p h
 
-strong_part : (part : Part) → is_strong part ≡ true → (all : Bool) × (f : ℕ) × (second : ℕ) × (part ≡ Until all false f second)
-strong_part (Until all false f g) e = (all, f, g, refl)
-strong_part (Until all true f g) e = absurd (let q : false ≡ true = e in cc)
-strong_part Yes e = absurd (let q : false ≡ true = e in cc)
-strong_part No e = absurd (let q : false ≡ true = e in cc)
-strong_part (Lit side local is) e = absurd (let q : false ≡ true = e in cc)
-strong_part (Both f g) e = absurd (let q : false ≡ true = e in cc)
-strong_part (Either f g) e = absurd (let q : false ≡ true = e in cc)
-strong_part (Next all side f) e = absurd (let q : false ≡ true = e in cc)
-
 none_mark : (o : Option ℕ) → is_none o ≡ true → (r : ℕ) × (o ≡ Some r) → ⊥
 none_mark o e u = let q : is_none (Some u.0) ≡ true = subst (λ (x : Option ℕ). is_none x ≡ true) u.1 e in let f : false ≡ true = q in cc
 
@@ -85,11 +78,14 @@ not_missing false d e p = absurd (let x : false ≡ true = p in cc)
 
 module _ (t : TableauParts) (k : IsTableau t) (ok : IsGraph t.closure (graph_of t)) (lives : List Bool) (within : (n : ℕ) → lives_of lives n ≡ true → n < length t.ands) (table : List (List (Option ℕ))) (h : AreTable t.closure (graph_of t) (lives_of lives) (count t.closure) table) (n : ℕ) (small : n < length t.ands) where
   -- a node that no rule deletes
-  pub left_yes : (untils : List ℕ) (flags : List Bool) → AreLivingOrs t lives (length t.ors) flags → AreStrongs t.closure (count t.closure) untils → lives_of lives n ≡ true → lives_on t flags n ≡ true → ((u : ℕ) → Contains untils u → is_missing t table n u ≡ false) → IsLeft t.closure (graph_of t) (lives_of lives) table n
-  left_yes untils flags living strongs alive on none = record {
+  pub left_yes : (targets : List Target) (flags : List Bool) → AreLivingOrs t lives (length t.ors) flags → AreTargets t.closure (count t.closure) targets → lives_of lives n ≡ true → lives_on t flags n ≡ true → NoneMissing t table n (length targets) targets → IsLeft t.closure (graph_of t) (lives_of lives) table n
+  left_yes targets flags living are alive on none = record {
     living = alive;
     successors = lives_on_out t k lives flags living n small on;
-    marked = λ u f second all strong. some_mark (ranks_of table n u) (not_missing ((graph_of t).row n u) (is_none (ranks_of table n u)) (none u (strongs.all u (until_lt t.closure u f second all false strong.part) (ap is_strong strong.part))) strong.member);
+    marked = λ u f second all strong. (
+        let at = are.all u f second all (until_lt t.closure u f second all false strong.part) strong.part in
+        let seen : is_missing t table n u ≡ false = subst (λ i. is_missing t table n i ≡ false) at.2 (none at.0 at.1) in
+        some_mark (ranks_of table n u) (not_missing ((graph_of t).row n u) (is_none (ranks_of table n u)) seen strong.member));
   }
 
   -- one without a living child of some successor
@@ -97,13 +93,11 @@ module _ (t : TableauParts) (k : IsTableau t) (ok : IsGraph t.closure (graph_of 
   left_apart flags living off s = let q : true ≡ false = sym (lives_on_in t k lives flags living n small s.successors) ∙ off in cc
 
   -- one with a strong until that is not fulfilled
-  pub left_missing : (untils : List ℕ) → AreStrongs t.closure (count t.closure) untils → lives_of lives n ≡ true → (u : ℕ) → Contains untils u → is_missing t table n u ≡ true → IsSupported t.closure (graph_of t) (lives_of lives) n → ⊥
-  left_missing untils strongs alive u there e s =
-      let a = both_of ((graph_of t).row n u) (is_none (ranks_of table n u)) e in
-      let b = strongs.each u there in
-      let p = strong_part (part_of t.closure u) b.1 in
-      let f = s.fulfilled u p.1 p.2 p.0 (record { part = p.3; member = a.0 }) in
-      none_mark (ranks_of table n u) a.1 (fulfilled_marked t.closure k.rules.closure (graph_of t) ok (lives_of lives) within u p.1 p.2 p.0 p.3 (marks_at table u) ((h.each u b.0).strong p.0 p.1 p.2 p.3) f.0 n alive a.0 f.1)
+  pub left_missing : (x : Target) → IsTarget t.closure x → lives_of lives n ≡ true → is_missing t table n x.member ≡ true → IsSupported t.closure (graph_of t) (lives_of lives) n → ⊥
+  left_missing x is alive e s =
+      let a = and_parts ((graph_of t).row n x.member) (is_none (ranks_of table n x.member)) e in
+      let f = s.fulfilled x.member x.f x.g x.all (record { part = is.part; member = a.0 }) in
+      none_mark (ranks_of table n x.member) a.1 (fulfilled_marked t.closure k.rules.closure (graph_of t) ok (lives_of lives) within x.member x.f x.g x.all is.part (marks_at table x.member) ((h.each x.member is.member).strong x.all x.f x.g is.part) f.0 n alive a.0 f.1)
 
 pub left_push : (c : ClosureParts) (g : Graph) (lives : ℕ → Bool) (table : List (List (Option ℕ))) (k : ℕ) (left more : List Bool) (x : Bool) → AreLeft c g lives table k left → more ≡ left ++ x ∷ [] → (x ≡ true → IsLeft c g lives table k) → (x ≡ false → (lives k ≡ false) ⊎ (IsSupported c g lives k → ⊥)) → AreLeft c g lives table (k + 1) more
 left_push c g lives table k left more x h e left_here gone_here = record {
@@ -120,19 +114,3 @@ left_push c g lives table k left more x h e left_here gone_here = record {
 
     before : (n : ℕ) → n < k → lives_of more n ≡ lives_of left n
     before n lt = ap (λ (l : List Bool). lives_of l n) e ∙ get_or_append_left left (x ∷ []) false n (let l = h.long in omega (arith, lt, l))
-
--- the strong untils among the members, one after the other
-pub strongs_none : (c : ClosureParts) (untils : List ℕ) → untils ≡ [] → AreStrongs c 0 untils
-strongs_none c untils e = record { each = λ u there. absurd (let none : Contains [] u = subst (λ (l : List ℕ). Contains l u) e there in omega (arith, none.1)); all = λ u lt. absurd (omega (arith, lt)) }
-
-pub strongs_yes : (c : ClosureParts) (k : ℕ) (untils more : List ℕ) → AreStrongs c k untils → more ≡ untils ++ k ∷ [] → is_strong (part_of c k) ≡ true → AreStrongs c (k + 1) more
-strongs_yes c k untils more h e strong = subst (AreStrongs c (k + 1)) (sym e) (record { each = each; all = all })
-  where
-    each : (u : ℕ) → Contains (untils ++ k ∷ []) u → (u < k + 1) × (is_strong (part_of c u) ≡ true)
-    each u there = elim (Contains-push_cases untils k u there) [ inl b ↦ (let v = h.each u b in let lt = v.0 in (omega (arith, lt), v.1)) | inr q ↦ (omega (arith, q), subst (λ i. is_strong (part_of c i) ≡ true) q strong) ]
-
-    all : (u : ℕ) → u < k + 1 → is_strong (part_of c u) ≡ true → Contains (untils ++ k ∷ []) u
-    all u lt s = elim (dec_lt u k) [ yes b ↦ Contains-append_left untils (k ∷ []) u (h.all u b s) | no g ↦ (let q : k ≡ u = omega (arith, lt, g) in subst (Contains (untils ++ k ∷ [])) q (Contains-append_right untils (k ∷ []) k (0, omega arith, refl))) ]
-
-pub strongs_no : (c : ClosureParts) (k : ℕ) (untils : List ℕ) → AreStrongs c k untils → is_strong (part_of c k) ≡ false → AreStrongs c (k + 1) untils
-strongs_no c k untils h weak = record { each = λ u there. (let v = h.each u there in let lt = v.0 in (omega (arith, lt), v.1)); all = λ u lt s. elim (dec_lt u k) [ yes b ↦ h.all u b s | no g ↦ absurd (let q : u ≡ k = omega (arith, lt, g) in let x : true ≡ false = sym s ∙ subst (λ i. is_strong (part_of c i) ≡ false) (sym q) weak in cc) ] }

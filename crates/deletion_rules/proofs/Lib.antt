@@ -21,6 +21,7 @@ pub mod Standing
 pub mod States
 pub mod Survive
 pub mod Tables
+pub mod TargetLaws
 pub mod ThinningLaws
 pub mod VisitLaws
 pub mod WholePlan

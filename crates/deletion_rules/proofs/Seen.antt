@@ -1,5 +1,6 @@
 -- What the tests of the code say of children and successors in the words of the rules.
 use Rattle.std.proofs.Common.{ℕ, zero, suc, ◌≡◌, ◌⊎◌, ◌<◌, inl, inr, Bool, true, false, ◌||◌, ◌&&◌, cond, nat_lt, Option, Some, None, List, [], ◌∷◌, Contains, length, refl, subst, sym, ◌∙◌, ap, arith, slice_index_or}
+use Rattle.std.proofs.lemmas.Bool.{and_parts, and_from, or_cases, or_left, or_right}
 use Rattle.std.specs.List.{list_any, list_all}
 use Rattle.std.proofs.Math.Decide.{dec_lt}
 use Rattle.std.proofs.lemmas.Grind.{get_or_default_zero}
@@ -18,48 +19,30 @@ use Rattle.deletion_rules.specs.Marks.{lives_of}
 use Rattle.deletion_rules.specs.Tests.{lives_or, lives_on, AreLivingOrs}
 use Rattle.deletion_rules.proofs.Within.{successor_within}
 
-pub both_of : (a b : Bool) → a && b ≡ true → (a ≡ true) × (b ≡ true)
-both_of true b e = (refl, e)
-both_of false b e = absurd (let f : false ≡ true = e in cc)
-
-pub of_both : (a b : Bool) → a ≡ true → b ≡ true → a && b ≡ true
-of_both a b e f = rw e f
-
-pub either_of : (a b : Bool) → a || b ≡ true → (a ≡ true) ⊎ (b ≡ true)
-either_of true b e = inl refl
-either_of false b e = inr e
-
-pub of_left : (a b : Bool) → a ≡ true → a || b ≡ true
-of_left a b e = rw e refl
-
-pub of_right : (a b : Bool) → b ≡ true → a || b ≡ true
-of_right true b e = refl
-of_right false b e = e
-
 -- an element of a list that passes, and all that pass
 pub any_out : (p : ℕ → Bool) (xs : List ℕ) → list_any p xs ≡ true → (x : ℕ) × Contains xs x × (p x ≡ true)
 any_out p [] e = absurd (let f : false ≡ true = e in cc)
-any_out p (x ∷ xs) e = elim (either_of (p x) (list_any p xs) e) [ inl f ↦ (x, (0, omega arith, refl), f) | inr f ↦ (let u = any_out p xs f in let c = u.1 in (u.0, (suc c.0, omega (arith, c.1), c.2), u.2)) ]
+any_out p (x ∷ xs) e = elim (or_cases (p x) (list_any p xs) e) [ inl f ↦ (x, (0, omega arith, refl), f) | inr f ↦ (let u = any_out p xs f in let c = u.1 in (u.0, (suc c.0, omega (arith, c.1), c.2), u.2)) ]
 
 pub any_in : (p : ℕ → Bool) (xs : List ℕ) (x : ℕ) → Contains xs x → p x ≡ true → list_any p xs ≡ true
 any_in p [] x h e = absurd (omega (arith, h.1))
 any_in p (y ∷ xs) x h e = by (λ c. any_in p xs x c e) h.0 h.1 h.2
   where
     by : (Contains xs x → list_any p xs ≡ true) → (k : ℕ) → k < length (y ∷ xs) → slice_index_or (y ∷ xs) k x ≡ x → p y || list_any p xs ≡ true
-    by again zero lt q = of_left (p y) (list_any p xs) (subst (λ z. p z ≡ true) (sym q) e)
-    by again (suc k) lt q = of_right (p y) (list_any p xs) (again (k, omega (arith, lt), q))
+    by again zero lt q = or_left (p y) (list_any p xs) (subst (λ z. p z ≡ true) (sym q) e)
+    by again (suc k) lt q = or_right (p y) (list_any p xs) (again (k, omega (arith, lt), q))
 
 pub all_out : (p : ℕ → Bool) (xs : List ℕ) → list_all p xs ≡ true → (x : ℕ) → Contains xs x → p x ≡ true
 all_out p [] e x h = absurd (omega (arith, h.1))
-all_out p (y ∷ xs) e x h = by (λ c. all_out p xs (both_of (p y) (list_all p xs) e).1 x c) h.0 h.1 h.2
+all_out p (y ∷ xs) e x h = by (λ c. all_out p xs (and_parts (p y) (list_all p xs) e).1 x c) h.0 h.1 h.2
   where
     by : (Contains xs x → p x ≡ true) → (k : ℕ) → k < length (y ∷ xs) → slice_index_or (y ∷ xs) k x ≡ x → p x ≡ true
-    by again zero lt q = subst (λ z. p z ≡ true) q (both_of (p y) (list_all p xs) e).0
+    by again zero lt q = subst (λ z. p z ≡ true) q (and_parts (p y) (list_all p xs) e).0
     by again (suc k) lt q = again (k, omega (arith, lt), q)
 
 pub all_in : (p : ℕ → Bool) (xs : List ℕ) → ((x : ℕ) → Contains xs x → p x ≡ true) → list_all p xs ≡ true
 all_in p [] h = refl
-all_in p (y ∷ xs) h = of_both (p y) (list_all p xs) (h y (0, omega arith, refl)) (all_in p xs (λ x c. h x (suc c.0, omega (arith, c.1), c.2)))
+all_in p (y ∷ xs) h = and_from (p y) (list_all p xs) (h y (0, omega arith, refl)) (all_in p xs (λ x c. h x (suc c.0, omega (arith, c.1), c.2)))
 
 -- members EXs h of the row, counted, name each place among the successors
 pub next_of_part : (part : Part) → is_some_next part ≡ true → (h : ℕ) × (side : Side) × (part ≡ Next false side h)
@@ -94,7 +77,7 @@ module _ (t : TableauParts) (k : IsTableau t) where
       let s = k.rules.successors n (omega (arith, small, all)) in
       let long = s.long in
       let u = place_hit t.closure (row_of (and_at t.ands n)) (count t.closure) there.0 (let lt = there.1 in omega (arith, lt, long)) in
-      let b = both_of (row_of (and_at t.ands n) u.0) (is_some_next (part_of t.closure u.0)) u.1 in
+      let b = and_parts (row_of (and_at t.ands n) u.0) (is_some_next (part_of t.closure u.0)) u.1 in
       let p = next_of_part (part_of t.closure u.0) b.1 in
       let z : slice_index_or (edges_at t.successors n) there.0 0 ≡ o = sym (get_or_default_zero (edges_at t.successors n) there.0 o there.1) ∙ there.2 in
       (u.0, p.0, p.1, record { node = small; member = b.0; part = p.2 }, ap (λ x. slice_index_or (edges_at t.successors n) x 0) u.2 ∙ z)

@@ -1,7 +1,7 @@
 -- A round of marks: what it adds is sound, and it misses nothing; and what the last one leaves.
 use Rattle.std.proofs.Common.{ℕ, suc, ◌≡◌, ◌⊎◌, ◌<◌, ◌≤◌, ◌+◌, inl, inr, Bool, true, false, ◌&&◌, Option, Some, None, List, [], ◌∷◌, ◌++◌, Contains, length, length-append, refl, subst, sym, ◌∙◌, ap, arith, cond, is_none, replicate}
 use Rattle.std.specs.List.{list_all}
-use Rattle.std.proofs.lemmas.Bool.{cases_lt}
+use Rattle.std.proofs.lemmas.Bool.{cases_lt, and_parts, and_from}
 use Rattle.std.proofs.Math.Decide.{dec_lt}
 use Rattle.std.proofs.lemmas.List.{get_or_append_left, get_or_past, get_or_push, get_or-replicate, length-replicate}
 use Rattle.std.proofs.lemmas.List.Sums.{sum_by-append}
@@ -23,10 +23,11 @@ use Rattle.deletion_rules.specs.Edges.{arrow_of, AreEdges}
 use Rattle.deletion_rules.specs.Lists.{list_at}
 use Rattle.deletion_rules.specs.Marks.{lives_of, mark_at, open_count, rank_of, AreMarks, AreSound, IsSeen}
 use Rattle.deletion_rules.specs.Spread.{AreFirst, IsAdmitted, IsArrowTo, IsLed, IsLedBy, IsMarked, IsMetAt, IsParentOf, IsPassing, IsReaching, IsSpread, Reaching, Visits}
-use Rattle.deletion_rules.specs.Tests.{has_member, is_met, IsGoal}
+use Rattle.deletion_rules.specs.Targets.{IsTarget}
+use Rattle.deletion_rules.specs.Tests.{has_member, is_met}
 use Rattle.deletion_rules.specs.declared.edges.Arrow.{Arrow}
-use Rattle.deletion_rules.specs.declared.goal.Goal.{Goal}
-use Rattle.deletion_rules.proofs.Seen.{all_out, both_of, of_both, successor_hit, successor_there}
+use Rattle.deletion_rules.specs.declared.target.Target.{Target}
+use Rattle.deletion_rules.proofs.Seen.{all_out, successor_hit, successor_there}
 use Rattle.deletion_rules.proofs.Standing.{flag_within, no_yes}
 use Rattle.deletion_rules.proofs.Within.{next_below}
 
@@ -80,7 +81,7 @@ falls_met : (c : ClosureParts) (g : Graph) (lives : ℕ → Bool) (rank : ℕ �
 falls_met c g lives rank true u f second r n has = inl has
 falls_met c g lives rank false u f second r n has = inl has
 
-module _ (t : TableauParts) (k : IsTableau t) (lives : List Bool) (long : length lives ≡ length t.ands) (goal : Goal) where
+module _ (t : TableauParts) (k : IsTableau t) (lives : List Bool) (long : length lives ≡ length t.ands) (target : Target) where
   abbrev g : Graph
   g = graph_of t
 
@@ -93,46 +94,46 @@ module _ (t : TableauParts) (k : IsTableau t) (lives : List Bool) (long : length
   falls_led false reached marks u f second r n lower has led = inr (has, (led.0, led.1, lower (g.next_or n (after t.closure led.0 u)) led.2))
 
   -- the nodes where the until is met
-  module _ (ok : IsGraph t.closure (graph_of t)) (marks : List (Option ℕ)) (reached : List Bool) (nodes : List ℕ) (h : AreFirst t lives goal (length t.ands) marks nodes) (none : (o : ℕ) → flag_of reached o ≡ true → ⊥) where
+  module _ (ok : IsGraph t.closure (graph_of t)) (marks : List (Option ℕ)) (reached : List Bool) (nodes : List ℕ) (h : AreFirst t lives target (length t.ands) marks nodes) (none : (o : ℕ) → flag_of reached o ≡ true → ⊥) where
     not_led : (all : Bool) (u n : ℕ) → n < length t.ands → IsLed t reached all u n → ⊥
     not_led true u n small led = let w = onward t.closure k.rules.closure (g.row n) (ok.full n small) in none (g.next_or n w.0) (led w.0 w.1 w.2 (record { node = small; member = w.3; part = w.4 }))
     not_led false u n small led = none (g.next_or n (after t.closure led.0 u)) led.2
 
-    pub spread_first : length reached ≡ length t.ors → IsSpread t lives goal 1 marks reached nodes
+    pub spread_first : length reached ≡ length t.ors → IsSpread t lives target 1 marks reached nodes
     spread_first long_reached = record {
       sound = record {
         long = h.long;
         below = λ n r e. (let q = (h.only n r e).0 in omega (arith, q));
-        seen = λ n r e. (let m = (h.only n r e).1 in record { living = m.living; member = m.member; falls = falls_met t.closure g (lives_of lives) (rank_of marks) goal.all goal.member goal.f goal.second r n m.second });
+        seen = λ n r e. (let m = (h.only n r e).1 in record { living = m.living; member = m.member; falls = falls_met t.closure g (lives_of lives) (rank_of marks) target.all target.member target.f target.g r n m.second });
       };
       listed = h.listed;
       long = long_reached;
       lower = λ o e. absurd (none o e);
       caught = λ o n small there m. inr (h.only n m.0 m.1).2;
       met = λ n m. h.met n (living_below n m.living) m;
-      passing = λ n p. absurd (not_led goal.all goal.member n (living_below n p.living) p.led);
+      passing = λ n p. absurd (not_led target.all target.member n (living_below n p.living) p.led);
     }
 
   -- the last round
-  module _ (is_goal : IsGoal t.closure goal) (round : ℕ) (marks : List (Option ℕ)) (reached : List Bool) (nodes : List ℕ) (s : IsSpread t lives goal round marks reached nodes) where
+  module _ (is_target : IsTarget t.closure target) (round : ℕ) (marks : List (Option ℕ)) (reached : List Bool) (nodes : List ℕ) (s : IsSpread t lives target round marks reached nodes) where
     module _ (empty : length nodes ≤ 0) where
-      caught_all : (o : ℕ) → o < length t.ors → HasLower g (lives_of lives) (rank_of marks) goal.member round o → flag_of reached o ≡ true
+      caught_all : (o : ℕ) → o < length t.ors → HasLower g (lives_of lives) (rank_of marks) target.member round o → flag_of reached o ≡ true
       caught_all o small w = elim (s.caught o w.0 small w.1 (w.3.0, w.3.1)) [ inl e ↦ e | inr c ↦ absurd (let lt = c.1 in omega (arith, lt, empty)) ]
 
-      led_of : (all : Bool) (f second n : ℕ) → n < length t.ands → goal.all ≡ all → Falls t.closure g (lives_of lives) (rank_of marks) all goal.member f second round n → Has (g.row n) second ⊎ (Has (g.row n) f × IsLed t reached all goal.member n)
+      led_of : (all : Bool) (f second n : ℕ) → n < length t.ands → target.all ≡ all → Falls t.closure g (lives_of lives) (rank_of marks) all target.member f second round n → Has (g.row n) second ⊎ (Has (g.row n) f × IsLed t reached all target.member n)
       led_of true f second n small e (inl y) = inl y
       led_of true f second n small e (inr v) = inr (v.0, λ i h side some. caught_all (g.next_or n i) (next_below t k n i h side small some.part some.member) (v.1 i h side some))
       led_of false f second n small e (inl y) = inl y
       led_of false f second n small e (inr v) =
           let side = v.1.0 in
-          let part : part_of t.closure goal.member ≡ Until false false goal.f goal.second = subst (λ b. part_of t.closure goal.member ≡ Until b false goal.f goal.second) e is_goal.part in
-          inr (v.0, (side, v.1.1, caught_all (g.next_or n (after t.closure side goal.member)) (next_below t k n (after t.closure side goal.member) goal.member side small (after_part t.closure k.rules.closure goal.member goal.f goal.second false false side part) v.1.1) v.1.2))
+          let part : part_of t.closure target.member ≡ Until false false target.f target.g = subst (λ b. part_of t.closure target.member ≡ Until b false target.f target.g) e is_target.part in
+          inr (v.0, (side, v.1.1, caught_all (g.next_or n (after t.closure side target.member)) (next_below t k n (after t.closure side target.member) target.member side small (after_part t.closure k.rules.closure target.member target.f target.g false false side part) v.1.1) v.1.2))
 
-      pub spread_done : AreMarks t.closure (graph_of t) (lives_of lives) goal.all goal.member goal.f goal.second marks
+      pub spread_done : AreMarks t.closure (graph_of t) (lives_of lives) target.all target.member target.f target.g marks
       spread_done = record { round = round; sound = s.sound; full = full }
         where
-          full : (n : ℕ) → IsSeen t.closure (graph_of t) (lives_of lives) marks goal.all goal.member goal.f goal.second round n → (r : ℕ) × (mark_at marks n ≡ Some r)
-          full n seen = elim (led_of goal.all goal.f goal.second n (living_below n seen.living) refl seen.falls) [ inl y ↦ s.met n (record { living = seen.living; member = seen.member; second = y }) | inr v ↦ s.passing n (record { living = seen.living; member = seen.member; first = v.0; led = v.1 }) ]
+          full : (n : ℕ) → IsSeen t.closure (graph_of t) (lives_of lives) marks target.all target.member target.f target.g round n → (r : ℕ) × (mark_at marks n ≡ Some r)
+          full n seen = elim (led_of target.all target.f target.g n (living_below n seen.living) refl seen.falls) [ inl y ↦ s.met n (record { living = seen.living; member = seen.member; second = y }) | inr v ↦ s.passing n (record { living = seen.living; member = seen.member; first = v.0; led = v.1 }) ]
 
     -- one more round
     module _ (parents : List (List ℕ)) (arrows : List (List Arrow)) (edges : AreEdges t parents arrows) where
@@ -158,10 +159,10 @@ module _ (t : TableauParts) (k : IsTableau t) (lives : List Bool) (long : length
         pub long_now : length now ≡ length t.ors
         long_now = r.long ∙ s.long
 
-        lower_now : (o : ℕ) → flag_of now o ≡ true → HasLower g (lives_of lives) (rank_of marks) goal.member round o
+        lower_now : (o : ℕ) → flag_of now o ≡ true → HasLower g (lives_of lives) (rank_of marks) target.member round o
         lower_now o e = elim (r.only o e) [ inl old ↦ s.lower o old | inr new ↦ by new.0 ]
           where
-            by : IsParentOf parents nodes o → HasLower g (lives_of lives) (rank_of marks) goal.member round o
+            by : IsParentOf parents nodes o → HasLower g (lives_of lives) (rank_of marks) target.member round o
             by (n, c, p) = let m = s.listed n c in (n, (edges.up.each n o p).1, (s.sound.seen n m.0 m.1).living, (m.0, m.1, s.sound.below n m.0 m.1))
 
         caught_now : (o n : ℕ) → o < length t.ors → Contains (g.children o) n → IsMarked marks n → flag_of now o ≡ true
@@ -169,37 +170,37 @@ module _ (t : TableauParts) (k : IsTableau t) (lives : List Bool) (long : length
 
         -- a node that passes now has a mark, or an arrow to an OR node that is new
         abbrev IsVisited : ℕ → Type 0
-        IsVisited n = IsMarked marks n ⊎ ((arrow : Arrow) × IsArrowTo arrows ors arrow × IsAdmitted t lives now goal arrow × (arrow.node ≡ n))
+        IsVisited n = IsMarked marks n ⊎ ((arrow : Arrow) × IsArrowTo arrows ors arrow × IsAdmitted t lives now target arrow × (arrow.node ≡ n))
 
-        visited_at : (n i h : ℕ) (side : Side) → IsPassing t lives now goal n → IsSomeNext t.closure g n i side h → Contains ors (g.next_or n i) → IsLedBy t now goal.all goal.member (arrow_of n i) → IsVisited n
+        visited_at : (n i h : ℕ) (side : Side) → IsPassing t lives now target n → IsSomeNext t.closure g n i side h → Contains ors (g.next_or n i) → IsLedBy t now target.all target.member (arrow_of n i) → IsVisited n
         visited_at n i h side p some c led = inr (arrow_of n i, (g.next_or n i, c, edges.back.all n i (g.next_or n i) some.node ((h, side, some), refl)), record { living = p.living; member = p.member; first = p.first; led = led }, refl)
 
-        visited : (all : Bool) (n : ℕ) → goal.all ≡ all → IsPassing t lives now goal n → IsLed t now all goal.member n → IsVisited n
+        visited : (all : Bool) (n : ℕ) → target.all ≡ all → IsPassing t lives now target n → IsLed t now all target.member n → IsVisited n
         visited false n e p led =
             let side = led.0 in
-            let i = after t.closure side goal.member in
-            let part : part_of t.closure goal.member ≡ Until false false goal.f goal.second = subst (λ b. part_of t.closure goal.member ≡ Until b false goal.f goal.second) e is_goal.part in
-            let some : IsSomeNext t.closure g n i side goal.member = record { node = living_below n p.living; member = led.1; part = after_part t.closure k.rules.closure goal.member goal.f goal.second false false side part } in
-            elim (r.only (g.next_or n i) led.2) [ inl old ↦ inl (s.passing n (record { living = p.living; member = p.member; first = p.first; led = subst (λ b. IsLed t reached b goal.member n) (sym e) (side, led.1, old) })) | inr new ↦ visited_at n i goal.member side p some new.1 (subst (λ b. IsLedBy t now b goal.member (arrow_of n i)) (sym e) (side, refl)) ]
+            let i = after t.closure side target.member in
+            let part : part_of t.closure target.member ≡ Until false false target.f target.g = subst (λ b. part_of t.closure target.member ≡ Until b false target.f target.g) e is_target.part in
+            let some : IsSomeNext t.closure g n i side target.member = record { node = living_below n p.living; member = led.1; part = after_part t.closure k.rules.closure target.member target.f target.g false false side part } in
+            elim (r.only (g.next_or n i) led.2) [ inl old ↦ inl (s.passing n (record { living = p.living; member = p.member; first = p.first; led = subst (λ b. IsLed t reached b target.member n) (sym e) (side, led.1, old) })) | inr new ↦ visited_at n i target.member side p some new.1 (subst (λ b. IsLedBy t now b target.member (arrow_of n i)) (sym e) (side, refl)) ]
         visited true n e p led = by (list_all (flag_of reached) (edges_at t.successors n)) refl
           where
             by : (b : Bool) → list_all (flag_of reached) (edges_at t.successors n) ≡ b → IsVisited n
-            by true q = inl (s.passing n (record { living = p.living; member = p.member; first = p.first; led = subst (λ b. IsLed t reached b goal.member n) (sym e) (λ i h side some. all_out (flag_of reached) (edges_at t.successors n) q (g.next_or n i) (successor_there t k n i h side some)) }))
+            by true q = inl (s.passing n (record { living = p.living; member = p.member; first = p.first; led = subst (λ b. IsLed t reached b target.member n) (sym e) (λ i h side some. all_out (flag_of reached) (edges_at t.successors n) q (g.next_or n i) (successor_there t k n i h side some)) }))
             by false q =
                 let x = not_all (flag_of reached) (edges_at t.successors n) q in
                 let u = successor_hit t k n x.0 (living_below n p.living) x.1 in
-                elim (r.only (g.next_or n u.0) (led u.0 u.1 u.2 u.3)) [ inl old ↦ absurd (no_yes (sym x.2 ∙ subst (λ o. flag_of reached o ≡ true) u.4 old)) | inr new ↦ visited_at n u.0 u.1 u.2 p u.3 new.1 (subst (λ b. IsLedBy t now b goal.member (arrow_of n u.0)) (sym e) led) ]
+                elim (r.only (g.next_or n u.0) (led u.0 u.1 u.2 u.3)) [ inl old ↦ absurd (no_yes (sym x.2 ∙ subst (λ o. flag_of reached o ≡ true) u.4 old)) | inr new ↦ visited_at n u.0 u.1 u.2 p u.3 new.1 (subst (λ b. IsLedBy t now b target.member (arrow_of n u.0)) (sym e) led) ]
 
-        module _ (next : List (Option ℕ)) (new : List ℕ) (v : Visits t lives now goal round (IsArrowTo arrows ors) marks [] next new) where
-          pub spread_next : IsSpread t lives goal (round + 1) next now new
+        module _ (next : List (Option ℕ)) (new : List ℕ) (v : Visits t lives now target round (IsArrowTo arrows ors) marks [] next new) where
+          pub spread_next : IsSpread t lives target (round + 1) next now new
           spread_next = record {
             sound = record { long = v.long ∙ s.sound.long; below = below; seen = seen };
             listed = λ n c. elim (v.fresh n c) [ inl none ↦ absurd (no_item n none) | inr m ↦ m ];
             long = long_now;
-            lower = λ o e. lower_keeps t.closure g (lives_of lives) marks next v.kept goal.member round (round + 1) o (omega arith) (lower_now o e);
+            lower = λ o e. lower_keeps t.closure g (lives_of lives) marks next v.kept target.member round (round + 1) o (omega arith) (lower_now o e);
             caught = λ o n small there m. elim (v.added n m.0 m.1) [ inl old ↦ inl (caught_now o n small there (m.0, old)) | inr a ↦ inr a.2 ];
             met = λ n m. keeps n (s.met n m);
-            passing = λ n p. elim (visited goal.all n refl p p.led) [ inl m ↦ keeps n m | inr a ↦ subst (IsMarked next) a.3 (v.all a.0 a.1 a.2) ];
+            passing = λ n p. elim (visited target.all n refl p p.led) [ inl m ↦ keeps n m | inr a ↦ subst (IsMarked next) a.3 (v.all a.0 a.1 a.2) ];
           }
             where
               keeps : (n : ℕ) → IsMarked marks n → IsMarked next n
@@ -208,8 +209,8 @@ module _ (t : TableauParts) (k : IsTableau t) (lives : List Bool) (long : length
               below : (n r : ℕ) → mark_at next n ≡ Some r → r < round + 1
               below n r e = elim (v.added n r e) [ inl old ↦ (let lt = s.sound.below n r old in omega (arith, lt)) | inr a ↦ (let q = a.0 in omega (arith, q)) ]
 
-              seen : (n r : ℕ) → mark_at next n ≡ Some r → IsSeen t.closure g (lives_of lives) next goal.all goal.member goal.f goal.second r n
-              seen n r e = elim (v.added n r e) [ inl old ↦ seen_keeps t.closure g (lives_of lives) marks next v.kept goal.member goal.all goal.f goal.second r n (s.sound.seen n r old) | inr a ↦ subst (λ x. IsSeen t.closure g (lives_of lives) next goal.all goal.member goal.f goal.second x n) (sym a.0) (seen_keeps t.closure g (lives_of lives) marks next v.kept goal.member goal.all goal.f goal.second round n (record { living = a.1.living; member = a.1.member; falls = falls_led goal.all now marks goal.member goal.f goal.second round n lower_now a.1.first a.1.led })) ]
+              seen : (n r : ℕ) → mark_at next n ≡ Some r → IsSeen t.closure g (lives_of lives) next target.all target.member target.f target.g r n
+              seen n r e = elim (v.added n r e) [ inl old ↦ seen_keeps t.closure g (lives_of lives) marks next v.kept target.member target.all target.f target.g r n (s.sound.seen n r old) | inr a ↦ subst (λ x. IsSeen t.closure g (lives_of lives) next target.all target.member target.f target.g x n) (sym a.0) (seen_keeps t.closure g (lives_of lives) marks next v.kept target.member target.all target.f target.g round n (record { living = a.1.living; member = a.1.member; falls = falls_led target.all now marks target.member target.f target.g round n lower_now a.1.first a.1.led })) ]
 
 -- no flag of the list is set
 pub none_reached : (flags : List Bool) (n : ℕ) → flags ≡ replicate n false → (o : ℕ) → flag_of flags o ≡ true → ⊥
@@ -218,11 +219,11 @@ none_reached flags n e o h = no_yes (sym (all_false n o) ∙ subst (λ (l : List
     all_false : (n o : ℕ) → flag_of (replicate n false) o ≡ false
     all_false n o = elim (cases_lt o n) [ inl l ↦ get_or-replicate n o false false l | inr g ↦ get_or_past (replicate n false) o false (let q = length-replicate n false in omega (arith, g, q)) ]
 
-pub first_none : (t : TableauParts) (lives : List Bool) (goal : Goal) (marks : List (Option ℕ)) (nodes : List ℕ) → marks ≡ [] → nodes ≡ [] → AreFirst t lives goal 0 marks nodes
-first_none t lives goal marks nodes e f = subst (λ (m : List (Option ℕ)). AreFirst t lives goal 0 m nodes) (sym e) (subst (AreFirst t lives goal 0 []) (sym f) (record { long = refl; met = λ n lt m. absurd (omega (arith, lt)); only = λ n r q. absurd (no_some q); listed = λ n c. absurd (no_item n c); fewer = refl }))
+pub first_none : (t : TableauParts) (lives : List Bool) (target : Target) (marks : List (Option ℕ)) (nodes : List ℕ) → marks ≡ [] → nodes ≡ [] → AreFirst t lives target 0 marks nodes
+first_none t lives target marks nodes e f = subst (λ (m : List (Option ℕ)). AreFirst t lives target 0 m nodes) (sym e) (subst (AreFirst t lives target 0 []) (sym f) (record { long = refl; met = λ n lt m. absurd (omega (arith, lt)); only = λ n r q. absurd (no_some q); listed = λ n c. absurd (no_item n c); fewer = refl }))
 
 -- the first nodes, one after the other
-module _ (t : TableauParts) (lives : List Bool) (goal : Goal) (k : ℕ) (marks more : List (Option ℕ)) (nodes : List ℕ) (h : AreFirst t lives goal k marks nodes) where
+module _ (t : TableauParts) (lives : List Bool) (target : Target) (k : ℕ) (marks more : List (Option ℕ)) (nodes : List ℕ) (h : AreFirst t lives target k marks nodes) where
   grown_long : (x : Option ℕ) → more ≡ marks ++ x ∷ [] → length more ≡ k + 1
   grown_long x e = let l : length marks ≡ k = h.long in ap length e ∙ (let q : length (marks ++ x ∷ []) ≡ k + 1 = omega (arith, l, length-append marks (x ∷ [])) in q)
 
@@ -235,17 +236,17 @@ module _ (t : TableauParts) (lives : List Bool) (goal : Goal) (k : ℕ) (marks m
   kept : (x : Option ℕ) → more ≡ marks ++ x ∷ [] → (n : ℕ) → IsMarked marks n → IsMarked more n
   kept x e n m = (m.0, grown_before x e n (let lt = marked_within marks n m in let l = h.long in omega (arith, lt, l)) ∙ m.1)
 
-  pub first_yes : (new : List ℕ) → is_met t lives goal k ≡ true → more ≡ marks ++ Some 0 ∷ [] → new ≡ nodes ++ k ∷ [] → AreFirst t lives goal (k + 1) more new
-  first_yes new is e f = subst (AreFirst t lives goal (k + 1) more) (sym f) (record { long = grown_long (Some 0) e; met = met; only = only; listed = listed; fewer = fewer })
+  pub first_yes : (new : List ℕ) → is_met t lives target k ≡ true → more ≡ marks ++ Some 0 ∷ [] → new ≡ nodes ++ k ∷ [] → AreFirst t lives target (k + 1) more new
+  first_yes new is e f = subst (AreFirst t lives target (k + 1) more) (sym f) (record { long = grown_long (Some 0) e; met = met; only = only; listed = listed; fewer = fewer })
     where
-      here : IsMetAt t lives goal k
-      here = let a = both_of (lives_of lives k && has_member t k goal.member) (has_member t k goal.second) is in let b = both_of (lives_of lives k) (has_member t k goal.member) a.0 in record { living = b.0; member = b.1; second = a.1 }
+      here : IsMetAt t lives target k
+      here = let a = and_parts (lives_of lives k && has_member t k target.member) (has_member t k target.g) is in let b = and_parts (lives_of lives k) (has_member t k target.member) a.0 in record { living = b.0; member = b.1; second = a.1 }
 
-      met : (n : ℕ) → n < k + 1 → IsMetAt t lives goal n → IsMarked more n
+      met : (n : ℕ) → n < k + 1 → IsMetAt t lives target n → IsMarked more n
       met n lt m = elim (dec_lt n k) [ yes b ↦ kept (Some 0) e n (h.met n b m) | no o ↦ (let q : k ≡ n = omega (arith, lt, o) in subst (IsMarked more) q (0, grown_here (Some 0) e)) ]
 
-      only : (n r : ℕ) → mark_at more n ≡ Some r → (r ≡ 0) × IsMetAt t lives goal n × Contains (nodes ++ k ∷ []) n
-      only n r q = elim (dec_lt n k) [ yes b ↦ (let o = h.only n r (sym (grown_before (Some 0) e n b) ∙ q) in (o.0, o.1, Contains-append_left nodes (k ∷ []) n o.2)) | no o ↦ (let z : k ≡ n = (let lt = marked_within more n (r, q) in let l = grown_long (Some 0) e in omega (arith, lt, l, o)) in (some_same (sym (subst (λ x. mark_at more x ≡ Some r) (sym z) q) ∙ grown_here (Some 0) e), subst (IsMetAt t lives goal) z here, subst (Contains (nodes ++ k ∷ [])) z (Contains-append_right nodes (k ∷ []) k (0, omega arith, refl)))) ]
+      only : (n r : ℕ) → mark_at more n ≡ Some r → (r ≡ 0) × IsMetAt t lives target n × Contains (nodes ++ k ∷ []) n
+      only n r q = elim (dec_lt n k) [ yes b ↦ (let o = h.only n r (sym (grown_before (Some 0) e n b) ∙ q) in (o.0, o.1, Contains-append_left nodes (k ∷ []) n o.2)) | no o ↦ (let z : k ≡ n = (let lt = marked_within more n (r, q) in let l = grown_long (Some 0) e in omega (arith, lt, l, o)) in (some_same (sym (subst (λ x. mark_at more x ≡ Some r) (sym z) q) ∙ grown_here (Some 0) e), subst (IsMetAt t lives target) z here, subst (Contains (nodes ++ k ∷ [])) z (Contains-append_right nodes (k ∷ []) k (0, omega arith, refl)))) ]
 
       listed : (n : ℕ) → Contains (nodes ++ k ∷ []) n → IsMarked more n
       listed n c = elim (Contains-push_cases nodes k n c) [ inl b ↦ kept (Some 0) e n (h.listed n b) | inr q ↦ subst (IsMarked more) q (0, grown_here (Some 0) e) ]
@@ -253,16 +254,16 @@ module _ (t : TableauParts) (lives : List Bool) (goal : Goal) (k : ℕ) (marks m
       fewer : open_count more + length (nodes ++ k ∷ []) ≡ k + 1
       fewer = let q : open_count more ≡ open_count marks = ap open_count e ∙ open_some marks 0 in let f = h.fewer in omega (arith, q, f, length-append nodes (k ∷ []))
 
-  pub first_no : is_met t lives goal k ≡ false → more ≡ marks ++ None ∷ [] → AreFirst t lives goal (k + 1) more nodes
+  pub first_no : is_met t lives target k ≡ false → more ≡ marks ++ None ∷ [] → AreFirst t lives target (k + 1) more nodes
   first_no is e = record { long = grown_long None e; met = met; only = only; listed = λ n c. kept None e n (h.listed n c); fewer = fewer }
     where
-      never : IsMetAt t lives goal k → ⊥
-      never m = no_yes (sym is ∙ of_both (lives_of lives k && has_member t k goal.member) (has_member t k goal.second) (of_both (lives_of lives k) (has_member t k goal.member) m.living m.member) m.second)
+      never : IsMetAt t lives target k → ⊥
+      never m = no_yes (sym is ∙ and_from (lives_of lives k && has_member t k target.member) (has_member t k target.g) (and_from (lives_of lives k) (has_member t k target.member) m.living m.member) m.second)
 
-      met : (n : ℕ) → n < k + 1 → IsMetAt t lives goal n → IsMarked more n
-      met n lt m = elim (dec_lt n k) [ yes b ↦ kept None e n (h.met n b m) | no o ↦ (let q : n ≡ k = omega (arith, lt, o) in absurd (never (subst (IsMetAt t lives goal) q m))) ]
+      met : (n : ℕ) → n < k + 1 → IsMetAt t lives target n → IsMarked more n
+      met n lt m = elim (dec_lt n k) [ yes b ↦ kept None e n (h.met n b m) | no o ↦ (let q : n ≡ k = omega (arith, lt, o) in absurd (never (subst (IsMetAt t lives target) q m))) ]
 
-      only : (n r : ℕ) → mark_at more n ≡ Some r → (r ≡ 0) × IsMetAt t lives goal n × Contains nodes n
+      only : (n r : ℕ) → mark_at more n ≡ Some r → (r ≡ 0) × IsMetAt t lives target n × Contains nodes n
       only n r q = elim (dec_lt n k) [ yes b ↦ h.only n r (sym (grown_before None e n b) ∙ q) | no o ↦ (let z : n ≡ k = (let lt = marked_within more n (r, q) in let l = grown_long None e in omega (arith, lt, l, o)) in absurd (no_some (sym (grown_here None e) ∙ subst (λ x. mark_at more x ≡ Some r) z q))) ]
 
       fewer : open_count more + length nodes ≡ k + 1

@@ -10,19 +10,10 @@ use Rattle.closure_sets.specs.Label.{part_of}
 use Rattle.closure_sets.proofs.MarkLaws.{below_of}
 use Rattle.tableau_graph.specs.Graph.{Graph}
 use Rattle.deletion_rules.specs.Marks.{lists_of, marks_at, AreMarks, AreMarksOf, AreTable}
-use Rattle.deletion_rules.specs.Tests.{IsGoal}
-use Rattle.deletion_rules.specs.declared.goal.Goal.{Goal}
+use Rattle.deletion_rules.specs.Targets.{IsTarget}
 
-pub goal_of : (c : ClosureParts) → IsClosureParts c → (all : Bool) (u f g : ℕ) → u < count c → part_of c u ≡ Until all false f g → IsGoal c (record { all = all; member = u; f = f; second = g })
-goal_of c k all u f g lt p = let below = below_of c k u (Until all false f g) lt p in record {
-  part = p;
-  member = lt;
-  first = below.0;
-  second = below.1;
-  after_a = (k.nexts u f g all false A lt p).0;
-  after_b = (k.nexts u f g all false B lt p).0;
-  few = k.numbering.few;
-}
+pub target_is : (c : ClosureParts) → IsClosureParts c → (all : Bool) (u f g : ℕ) → u < count c → part_of c u ≡ Until all false f g → IsTarget c (record { all = all; member = u; f = f; g = g })
+target_is c k all u f g lt p = let below = below_of c k u (Until all false f g) lt p in record { part = p; member = lt; f = below.0; g = below.1 }
 
 until_same : {all all' : Bool} {f f' g g' : ℕ} → Until all false f g ≡ Until all' false f' g' → (all ≡ all') × (f ≡ f') × (g ≡ g')
 until_same e = (cc, cc, cc)

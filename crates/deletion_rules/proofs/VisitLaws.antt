@@ -1,5 +1,6 @@
 -- Nodes are visited along arrows, one after the other.
 use Rattle.std.proofs.Common.{ℕ, ◌≡◌, ◌≢◌, ◌⊎◌, ◌<◌, ◌≤◌, ◌+◌, ◌++◌, inl, inr, Bool, true, false, cond, Option, Some, None, List, [], ◌∷◌, Contains, length, length-append, length-set, refl, subst, sym, ◌∙◌, ap, arith, count_by, is_none, is_some, slice_index_or, slice_set, ◌&&◌, ◌↔◌, IsTrue}
+use Rattle.std.proofs.lemmas.Bool.{and_parts}
 use Rattle.std.proofs.Math.Decide.{ℕ_discrete}
 use Rattle.std.proofs.lemmas.Grind.{get_or_default_zero}
 use Rattle.std.proofs.lemmas.List.{get_or_default, get_or-set_same, get_or-set_other}
@@ -17,8 +18,8 @@ use Rattle.deletion_rules.specs.Marks.{lives_of, mark_at, open_count}
 use Rattle.deletion_rules.specs.Spread.{IsAdmitted, IsArrowTo, IsLed, IsLedBy, IsMarked, IsPassing, IsReaching, Visits}
 use Rattle.deletion_rules.specs.Tests.{has_member}
 use Rattle.deletion_rules.specs.declared.edges.Arrow.{Arrow}
-use Rattle.deletion_rules.specs.declared.goal.Goal.{Goal}
-use Rattle.deletion_rules.proofs.Seen.{both_of, successor_hit, successor_there}
+use Rattle.deletion_rules.specs.declared.target.Target.{Target}
+use Rattle.deletion_rules.proofs.Seen.{successor_hit, successor_there}
 use Rattle.deletion_rules.proofs.Standing.{no_yes, none_before, stands_all, stands_cases, stands_here, stands_in, stands_more}
 
 -- one mark more is one node less that lacks one
@@ -44,9 +45,9 @@ no_some e = cc
 abbrev pub IsArrowBefore : List (List Arrow) → List ℕ → ℕ → Arrow → Type 0
 IsArrowBefore arrows ors k arrow = (o : ℕ) × StandsBefore ors k o × Contains (list_at arrows o) arrow
 
-module _ (t : TableauParts) (lives reached : List Bool) (goal : Goal) (round : ℕ) where
+module _ (t : TableauParts) (lives reached : List Bool) (target : Target) (round : ℕ) where
   abbrev V : (Arrow → Type 0) → List (Option ℕ) → List ℕ → List (Option ℕ) → List ℕ → Type 0
-  V Named before old after new = Visits t lives reached goal round Named before old after new
+  V Named before old after new = Visits t lives reached target round Named before old after new
 
   pub visits_none : (Named : Arrow → Type 0) (marks : List (Option ℕ)) (nodes : List ℕ) → ((arrow : Arrow) → Named arrow → ⊥) → V Named marks nodes marks nodes
   visits_none Named marks nodes none = record { long = refl; kept = λ n r e. e; added = λ n r e. inl e; listed = λ n c. c; fresh = λ n c. inl c; all = λ arrow h a. absurd (none arrow h); fewer = refl }
@@ -66,11 +67,11 @@ module _ (t : TableauParts) (lives reached : List Bool) (goal : Goal) (round : �
   }
 
   -- nothing comes of an arrow
-  pub visits_passed : (arrow : Arrow) (marks : List (Option ℕ)) (nodes : List ℕ) → (IsAdmitted t lives reached goal arrow → IsMarked marks arrow.node) → V (λ other. other ≡ arrow) marks nodes marks nodes
-  visits_passed arrow marks nodes h = record { long = refl; kept = λ n r e. e; added = λ n r e. inl e; listed = λ n c. c; fresh = λ n c. inl c; all = λ other q. subst (λ (x : Arrow). IsAdmitted t lives reached goal x → IsMarked marks x.node) (sym q) h; fewer = refl }
+  pub visits_passed : (arrow : Arrow) (marks : List (Option ℕ)) (nodes : List ℕ) → (IsAdmitted t lives reached target arrow → IsMarked marks arrow.node) → V (λ other. other ≡ arrow) marks nodes marks nodes
+  visits_passed arrow marks nodes h = record { long = refl; kept = λ n r e. e; added = λ n r e. inl e; listed = λ n c. c; fresh = λ n c. inl c; all = λ other q. subst (λ (x : Arrow). IsAdmitted t lives reached target x → IsMarked marks x.node) (sym q) h; fewer = refl }
 
   -- its node passes
-  pub visits_new : (arrow : Arrow) (marks : List (Option ℕ)) (nodes new : List ℕ) → arrow.node < length marks → mark_at marks arrow.node ≡ None → IsPassing t lives reached goal arrow.node → new ≡ nodes ++ arrow.node ∷ [] → V (λ other. other ≡ arrow) marks nodes (slice_set marks arrow.node (Some round)) new
+  pub visits_new : (arrow : Arrow) (marks : List (Option ℕ)) (nodes new : List ℕ) → arrow.node < length marks → mark_at marks arrow.node ≡ None → IsPassing t lives reached target arrow.node → new ≡ nodes ++ arrow.node ∷ [] → V (λ other. other ≡ arrow) marks nodes (slice_set marks arrow.node (Some round)) new
   visits_new arrow marks nodes new lt none passes e = subst (V (λ other. other ≡ arrow) marks nodes (slice_set marks arrow.node (Some round))) (sym e) (record {
     long = length-set marks arrow.node (Some round);
     kept = kept;
@@ -90,8 +91,8 @@ module _ (t : TableauParts) (lives reached : List Bool) (goal : Goal) (round : �
       kept : (n r : ℕ) → mark_at marks n ≡ Some r → mark_at (slice_set marks arrow.node (Some round)) n ≡ Some r
       kept n r q = elim (ℕ_discrete n arrow.node) [ yes s ↦ absurd (no_some (sym none ∙ subst (λ x. mark_at marks x ≡ Some r) s q)) | no d ↦ set_other marks arrow.node n round d ∙ q ]
 
-      added : (n r : ℕ) → mark_at (slice_set marks arrow.node (Some round)) n ≡ Some r → (mark_at marks n ≡ Some r) ⊎ ((r ≡ round) × IsPassing t lives reached goal n × Contains (nodes ++ arrow.node ∷ []) n)
-      added n r q = elim (ℕ_discrete n arrow.node) [ yes s ↦ inr (some_same (sym (subst (λ x. mark_at (slice_set marks arrow.node (Some round)) x ≡ Some r) s q) ∙ set_here marks arrow.node round lt), subst (IsPassing t lives reached goal) (sym s) passes, subst (Contains (nodes ++ arrow.node ∷ [])) (sym s) (Contains-append_right nodes (arrow.node ∷ []) arrow.node (0, omega arith, refl))) | no d ↦ inl (sym (set_other marks arrow.node n round d) ∙ q) ]
+      added : (n r : ℕ) → mark_at (slice_set marks arrow.node (Some round)) n ≡ Some r → (mark_at marks n ≡ Some r) ⊎ ((r ≡ round) × IsPassing t lives reached target n × Contains (nodes ++ arrow.node ∷ []) n)
+      added n r q = elim (ℕ_discrete n arrow.node) [ yes s ↦ inr (some_same (sym (subst (λ x. mark_at (slice_set marks arrow.node (Some round)) x ≡ Some r) s q) ∙ set_here marks arrow.node round lt), subst (IsPassing t lives reached target) (sym s) passes, subst (Contains (nodes ++ arrow.node ∷ [])) (sym s) (Contains-append_right nodes (arrow.node ∷ []) arrow.node (0, omega arith, refl))) | no d ↦ inl (sym (set_other marks arrow.node n round d) ∙ q) ]
 
   -- all arrows of a list
   pub arrows_begin : (arrows : List Arrow) (marks : List (Option ℕ)) (nodes : List ℕ) → V (StandsBefore arrows 0) marks nodes marks nodes
@@ -124,27 +125,27 @@ led_passes t reached false u arrow to led =
     let o : flag_of reached ((graph_of t).next_or arrow.node arrow.member) ≡ true = subst (λ x. flag_of reached x ≡ true) (sym to.1.1) to.2 in
     (led.0, subst (λ i. Has ((graph_of t).row arrow.node) i) led.1 some.member, subst (λ i. flag_of reached ((graph_of t).next_or arrow.node i) ≡ true) led.1 o)
 
-pub admitted_passes : (t : TableauParts) (lives reached : List Bool) (goal : Goal) (arrow : Arrow) → IsReaching t reached arrow → IsAdmitted t lives reached goal arrow → IsPassing t lives reached goal arrow.node
-admitted_passes t lives reached goal arrow to h = record { living = h.living; member = h.member; first = h.first; led = led_passes t reached goal.all goal.member arrow to h.led }
+pub admitted_passes : (t : TableauParts) (lives reached : List Bool) (target : Target) (arrow : Arrow) → IsReaching t reached arrow → IsAdmitted t lives reached target arrow → IsPassing t lives reached target arrow.node
+admitted_passes t lives reached target arrow to h = record { living = h.living; member = h.member; first = h.first; led = led_passes t reached target.all target.member arrow to h.led }
 
 -- what the code tests, where each successor has to be reached
-pub each_admits : (t : TableauParts) → IsTableau t → (lives reached : List Bool) (goal : Goal) (arrow : Arrow) (items : List ℕ) (b : Bool) → IsReaching t reached arrow → lives_of lives arrow.node ≡ true → has_member t arrow.node goal.member && has_member t arrow.node goal.f ≡ true → goal.all ≡ true → items ≡ edges_at t.successors arrow.node → IsTrue b ↔ EachIs reached true items → IsTrue b ↔ IsAdmitted t lives reached goal arrow
-each_admits t k lives reached goal arrow items b to living has every e through = (yes_way, no_way)
+pub each_admits : (t : TableauParts) → IsTableau t → (lives reached : List Bool) (target : Target) (arrow : Arrow) (items : List ℕ) (b : Bool) → IsReaching t reached arrow → lives_of lives arrow.node ≡ true → has_member t arrow.node target.member && has_member t arrow.node target.f ≡ true → target.all ≡ true → items ≡ edges_at t.successors arrow.node → IsTrue b ↔ EachIs reached true items → IsTrue b ↔ IsAdmitted t lives reached target arrow
+each_admits t k lives reached target arrow items b to living has every e through = (yes_way, no_way)
   where
     small : arrow.node < length t.ands
     small = to.1.0.2.node
 
-    led : EachIs reached true items → IsLed t reached true goal.member arrow.node
+    led : EachIs reached true items → IsLed t reached true target.member arrow.node
     led f i h side some = f ((graph_of t).next_or arrow.node i) (subst (λ (l : List ℕ). Contains l ((graph_of t).next_or arrow.node i)) (sym e) (successor_there t k arrow.node i h side some))
 
-    yes_way : IsTrue b → IsAdmitted t lives reached goal arrow
-    yes_way y = let m = both_of (has_member t arrow.node goal.member) (has_member t arrow.node goal.f) has in record { living = living; member = m.0; first = m.1; led = subst (λ a. IsLedBy t reached a goal.member arrow) (sym every) (led (through.0 y)) }
+    yes_way : IsTrue b → IsAdmitted t lives reached target arrow
+    yes_way y = let m = and_parts (has_member t arrow.node target.member) (has_member t arrow.node target.f) has in record { living = living; member = m.0; first = m.1; led = subst (λ a. IsLedBy t reached a target.member arrow) (sym every) (led (through.0 y)) }
 
-    each : IsLed t reached true goal.member arrow.node → EachIs reached true items
+    each : IsLed t reached true target.member arrow.node → EachIs reached true items
     each f o there = let u = successor_hit t k arrow.node o small (subst (λ (l : List ℕ). Contains l o) e there) in subst (λ x. flag_of reached x ≡ true) u.4 (f u.0 u.1 u.2 u.3)
 
-    no_way : IsAdmitted t lives reached goal arrow → IsTrue b
-    no_way a = through.1 (each (subst (λ z. IsLedBy t reached z goal.member arrow) every a.led))
+    no_way : IsAdmitted t lives reached target arrow → IsTrue b
+    no_way a = through.1 (each (subst (λ z. IsLedBy t reached z target.member arrow) every a.led))
 
 -- a mark that was read
 some_of : (x : Option ℕ) → is_some x ≡ true → (r : ℕ) × (x ≡ Some r)

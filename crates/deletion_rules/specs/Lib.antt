@@ -12,6 +12,7 @@ pub mod Pruned
 pub mod Satisfying
 pub mod Spread
 pub mod Stable
+pub mod Targets
 pub mod Tests
 pub mod Thinning
 pub mod Unravel

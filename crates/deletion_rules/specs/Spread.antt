@@ -11,7 +11,7 @@ use Rattle.deletion_rules.specs.Edges.{IsArrow}
 use Rattle.deletion_rules.specs.Lists.{list_at}
 use Rattle.deletion_rules.specs.Marks.{lives_of, mark_at, open_count, rank_of, AreSound}
 use Rattle.deletion_rules.specs.declared.edges.Arrow.{Arrow}
-use Rattle.deletion_rules.specs.declared.goal.Goal.{Goal}
+use Rattle.deletion_rules.specs.declared.target.Target.{Target}
 
 -- the OR node has one of these nodes as a child
 abbrev pub IsParentOf : List (List ℕ) → List ℕ → ℕ → Type 0
@@ -36,11 +36,11 @@ IsLed t reached true u n = (i h : ℕ) (side : Side) → IsSomeNext t.closure (g
 IsLed t reached false u n = (side : Side) × Has ((graph_of t).row n) (after t.closure side u) × (flag_of reached ((graph_of t).next_or n (after t.closure side u)) ≡ true)
 
 -- a living node that has the until and its first part, and is led on
-pub record IsPassing (t : TableauParts) (lives reached : List Bool) (goal : Goal) (n : ℕ) : Type 0 where
+pub record IsPassing (t : TableauParts) (lives reached : List Bool) (target : Target) (n : ℕ) : Type 0 where
   pub living : lives_of lives n ≡ true
-  pub member : Has ((graph_of t).row n) goal.member
-  pub first : Has ((graph_of t).row n) goal.f
-  pub led : IsLed t reached goal.all goal.member n
+  pub member : Has ((graph_of t).row n) target.member
+  pub first : Has ((graph_of t).row n) target.f
+  pub led : IsLed t reached target.all target.member n
 
 -- the arrow leads to an OR node that is reached
 abbrev pub IsReaching : TableauParts → List Bool → Arrow → Type 0
@@ -52,11 +52,11 @@ IsLedBy t reached true u arrow = IsLed t reached true u arrow.node
 IsLedBy t reached false u arrow = IsNextTime t.closure u arrow.member
 
 -- the arrow lets its node pass
-pub record IsAdmitted (t : TableauParts) (lives reached : List Bool) (goal : Goal) (arrow : Arrow) : Type 0 where
+pub record IsAdmitted (t : TableauParts) (lives reached : List Bool) (target : Target) (arrow : Arrow) : Type 0 where
   pub living : lives_of lives arrow.node ≡ true
-  pub member : Has ((graph_of t).row arrow.node) goal.member
-  pub first : Has ((graph_of t).row arrow.node) goal.f
-  pub led : IsLedBy t reached goal.all goal.member arrow
+  pub member : Has ((graph_of t).row arrow.node) target.member
+  pub first : Has ((graph_of t).row arrow.node) target.f
+  pub led : IsLedBy t reached target.all target.member arrow
 
 abbrev pub IsMarked : List (Option ℕ) → ℕ → Type 0
 IsMarked marks n = (r : ℕ) × (mark_at marks n ≡ Some r)
@@ -66,35 +66,35 @@ abbrev pub IsArrowTo : List (List Arrow) → List ℕ → Arrow → Type 0
 IsArrowTo arrows ors arrow = (o : ℕ) × Contains ors o × Contains (list_at arrows o) arrow
 
 -- nodes that pass are marked with the round and put behind the others of the list, those of the named arrows among them
-pub record Visits (t : TableauParts) (lives reached : List Bool) (goal : Goal) (round : ℕ) (Named : Arrow → Type 0) (before : List (Option ℕ)) (old : List ℕ) (after : List (Option ℕ)) (new : List ℕ) : Type 0 where
+pub record Visits (t : TableauParts) (lives reached : List Bool) (target : Target) (round : ℕ) (Named : Arrow → Type 0) (before : List (Option ℕ)) (old : List ℕ) (after : List (Option ℕ)) (new : List ℕ) : Type 0 where
   pub long : length after ≡ length before
   pub kept : (n r : ℕ) → mark_at before n ≡ Some r → mark_at after n ≡ Some r
-  pub added : (n r : ℕ) → mark_at after n ≡ Some r → (mark_at before n ≡ Some r) ⊎ ((r ≡ round) × IsPassing t lives reached goal n × Contains new n)
+  pub added : (n r : ℕ) → mark_at after n ≡ Some r → (mark_at before n ≡ Some r) ⊎ ((r ≡ round) × IsPassing t lives reached target n × Contains new n)
   pub listed : (n : ℕ) → Contains old n → Contains new n
   pub fresh : (n : ℕ) → Contains new n → Contains old n ⊎ IsMarked after n
-  pub all : (arrow : Arrow) → Named arrow → IsAdmitted t lives reached goal arrow → IsMarked after arrow.node
+  pub all : (arrow : Arrow) → Named arrow → IsAdmitted t lives reached target arrow → IsMarked after arrow.node
   pub fewer : open_count after + length new ≡ open_count before + length old
 
 -- a living node that has the until and its second part
-pub record IsMetAt (t : TableauParts) (lives : List Bool) (goal : Goal) (n : ℕ) : Type 0 where
+pub record IsMetAt (t : TableauParts) (lives : List Bool) (target : Target) (n : ℕ) : Type 0 where
   pub living : lives_of lives n ≡ true
-  pub member : Has ((graph_of t).row n) goal.member
-  pub second : Has ((graph_of t).row n) goal.second
+  pub member : Has ((graph_of t).row n) target.member
+  pub second : Has ((graph_of t).row n) target.g
 
 -- of the first k nodes, those at which the until is met are marked with 0, and listed
-pub record AreFirst (t : TableauParts) (lives : List Bool) (goal : Goal) (k : ℕ) (marks : List (Option ℕ)) (nodes : List ℕ) : Type 0 where
+pub record AreFirst (t : TableauParts) (lives : List Bool) (target : Target) (k : ℕ) (marks : List (Option ℕ)) (nodes : List ℕ) : Type 0 where
   pub long : length marks ≡ k
-  pub met : (n : ℕ) → n < k → IsMetAt t lives goal n → IsMarked marks n
-  pub only : (n r : ℕ) → mark_at marks n ≡ Some r → (r ≡ 0) × IsMetAt t lives goal n × Contains nodes n
+  pub met : (n : ℕ) → n < k → IsMetAt t lives target n → IsMarked marks n
+  pub only : (n r : ℕ) → mark_at marks n ≡ Some r → (r ≡ 0) × IsMetAt t lives target n × Contains nodes n
   pub listed : (n : ℕ) → Contains nodes n → IsMarked marks n
   pub fewer : open_count marks + length nodes ≡ k
 
 -- marks of the rounds before this one: the OR nodes with a marked child are reached, but for those of the nodes that were marked last, and each node that passes by what is reached has a mark
-pub record IsSpread (t : TableauParts) (lives : List Bool) (goal : Goal) (round : ℕ) (marks : List (Option ℕ)) (reached : List Bool) (nodes : List ℕ) : Type 0 where
-  pub sound : AreSound t.closure (graph_of t) (lives_of lives) goal.all goal.member goal.f goal.second round marks
+pub record IsSpread (t : TableauParts) (lives : List Bool) (target : Target) (round : ℕ) (marks : List (Option ℕ)) (reached : List Bool) (nodes : List ℕ) : Type 0 where
+  pub sound : AreSound t.closure (graph_of t) (lives_of lives) target.all target.member target.f target.g round marks
   pub listed : (n : ℕ) → Contains nodes n → IsMarked marks n
   pub long : length reached ≡ length t.ors
-  pub lower : (o : ℕ) → flag_of reached o ≡ true → HasLower (graph_of t) (lives_of lives) (rank_of marks) goal.member round o
+  pub lower : (o : ℕ) → flag_of reached o ≡ true → HasLower (graph_of t) (lives_of lives) (rank_of marks) target.member round o
   pub caught : (o n : ℕ) → o < length t.ors → Contains ((graph_of t).children o) n → IsMarked marks n → (flag_of reached o ≡ true) ⊎ Contains nodes n
-  pub met : (n : ℕ) → IsMetAt t lives goal n → IsMarked marks n
-  pub passing : (n : ℕ) → IsPassing t lives reached goal n → IsMarked marks n
+  pub met : (n : ℕ) → IsMetAt t lives target n → IsMarked marks n
+  pub passing : (n : ℕ) → IsPassing t lives reached target n → IsMarked marks n

@@ -1,10 +1,13 @@
-ghost use Rattle.std.specs.Prelude.{◌≡◌, ◌⊎◌, ◌<◌, ℕ, true, false, Some, None, Contains, length, IfOk};
+ghost use Rattle.std.specs.Prelude.{◌≡◌, ◌⊎◌, ◌<◌, ℕ, true, false, Some, None, All, length, IfOk};
 ghost use Rattle.closure_sets.specs.ClosureParts.{count};
 ghost use Rattle.deletion_rules.specs.Deletion.{IsSupported};
 ghost use Rattle.deletion_rules.specs.Marks.{lists_of, lives_of, living_count, ranks_of, AreLeft, AreTable, IsLeft};
-ghost use Rattle.deletion_rules.specs.Tests.{is_missing, lives_on, lives_or, AreLivingOrs, AreStrongs};
+ghost use Rattle.deletion_rules.specs.Targets.{AreTargets, IsTarget};
+ghost use Rattle.deletion_rules.specs.Tests.{is_missing, lives_on, lives_or, AreLivingOrs, NoneMissing};
+ghost use Rattle.deletion_rules.specs.declared.target.Target.{Target};
 ghost use Rattle.tableau_graph.specs.Graph.{graph_of};
 
+use crate::target::Target;
 use pair_structure::Memory;
 use std::alloc::Global;
 use tableau_graph::{Tableau, tableau_is_graph};
@@ -15,7 +18,7 @@ pub(crate) fn lives_or(t: &Tableau, lives: &[bool], or: u64) -> bool
     requires lives { length lives.now ≡ length t.now.ands }
     ensures { result ≡ lives_or t.now lives.now or }
 {
-    let _nodes = t.ands();
+    t.tell_rules();
     for child in t.children(or) {
         if lives[*child as usize] {
             return true;
@@ -43,7 +46,7 @@ fn lives_on(t: &Tableau, ors: &[bool], n: u64) -> bool
     requires ors { length ors.now ≡ length t.now.ors }
     ensures { result ≡ lives_on t.now ors.now n }
 {
-    let _nodes = t.ands();
+    t.tell_rules();
     for or in t.successors(n) {
         if !ors[*or as usize] {
             return false;
@@ -66,20 +69,25 @@ fn is_missing(t: &Tableau, table: &[Vec<Option<u64>>], n: u64, member: u32) -> b
     requires member { member < count t.now.closure }
     ensures { result ≡ is_missing t.now (lists_of table.now) n member }
 {
-    let _few = t.closure().count();
+    t.closure().tell_members();
     t.ands()[n as usize].row.has(member) && rank_at(table, n, member).is_none()
 }
 
-/// A strong until of the node's row that has no mark.
-fn first_missing(t: &Tableau, untils: &[u32], table: &[Vec<Option<u64>>], n: u64) -> Option<u32>
+/// A target of the node's row that has no mark.
+fn first_missing(
+    t: &Tableau,
+    targets: &[Target],
+    table: &[Vec<Option<u64>>],
+    n: u64,
+) -> Option<Target>
     requires n { n < length t.now.ands }
-    requires untils { (u : ℕ) → Contains untils.now u → u < count t.now.closure }
-    ensures some { (u : ℕ) → result ≡ Some u → Contains untils.now u × (is_missing t.now (lists_of table.now) n u ≡ true) }
-    ensures none { result ≡ None → (u : ℕ) → Contains untils.now u → is_missing t.now (lists_of table.now) n u ≡ false }
+    requires targets { All (IsTarget t.now.closure) targets.now }
+    ensures some { (x : Target) → result ≡ Some x → IsTarget t.now.closure x × (is_missing t.now (lists_of table.now) n x.member ≡ true) }
+    ensures none { result ≡ None → NoneMissing t.now (lists_of table.now) n (length targets.now) targets.now }
 {
-    for until in untils {
-        if is_missing(t, table, n, *until) {
-            return Some(*until);
+    for target in targets {
+        if is_missing(t, table, n, target.member) {
+            return Some(*target);
         }
     }
     None
@@ -88,21 +96,21 @@ fn first_missing(t: &Tableau, untils: &[u32], table: &[Vec<Option<u64>>], n: u64
 /// Whether no rule deletes the node.
 fn stays(
     t: &Tableau,
-    untils: &[u32],
+    targets: &[Target],
     lives: &[bool],
     ors: &[bool],
     table: &[Vec<Option<u64>>],
     n: u64,
 ) -> bool
     requires n { n < length t.now.ands }
-    requires untils { AreStrongs t.now.closure (count t.now.closure) untils.now }
+    requires targets { AreTargets t.now.closure (count t.now.closure) targets.now }
     requires lives { length lives.now ≡ length t.now.ands }
     requires ors { AreLivingOrs t.now lives.now (length t.now.ors) ors.now }
     requires table { AreTable t.now.closure (graph_of t.now) (lives_of lives.now) (count t.now.closure) (lists_of table.now) }
     ensures left { result ≡ true → IsLeft t.now.closure (graph_of t.now) (lives_of lives.now) (lists_of table.now) n }
     ensures gone { result ≡ false → (lives_of lives.now n ≡ false) ⊎ (IsSupported t.now.closure (graph_of t.now) (lives_of lives.now) n → ⊥) }
 {
-    let _nodes = t.ands();
+    t.tell_rules();
     tableau_is_graph();
     if !lives[n as usize] {
         return false;
@@ -110,21 +118,21 @@ fn stays(
     if !lives_on(t, ors, n) {
         return false;
     }
-    match first_missing(t, untils, table, n) {
+    match first_missing(t, targets, table, n) {
         Some(_) => false,
         None => true,
     }
 }
 
-/// The nodes that no rule deletes. Linear in nodes and edges, and in the strong untils for each node.
+/// The nodes that no rule deletes. Linear in nodes and edges, and in the targets for each node.
 pub(crate) fn left_of(
     alloc: Global,
     t: &Tableau,
-    untils: &[u32],
+    targets: &[Target],
     lives: &[bool],
     table: &[Vec<Option<u64>>],
 ) -> Result<Vec<bool>, Memory>
-    requires untils { AreStrongs t.now.closure (count t.now.closure) untils.now }
+    requires targets { AreTargets t.now.closure (count t.now.closure) targets.now }
     requires lives { length lives.now ≡ length t.now.ands }
     requires table { AreTable t.now.closure (graph_of t.now) (lives_of lives.now) (count t.now.closure) (lists_of table.now) }
     ensures { IfOk result (λ left. AreLeft t.now.closure (graph_of t.now) (lives_of lives.now) (lists_of table.now) (length t.now.ands) left.items) }
@@ -133,7 +141,7 @@ pub(crate) fn left_of(
     let ors = living_ors(alloc, t, lives)?;
     let mut left = Vec::with_capacity(alloc, nodes)?;
     for n in 0..nodes {
-        left.push(stays(t, untils, lives, &ors, table, n as u64))?;
+        left.push(stays(t, targets, lives, &ors, table, n as u64))?;
     }
     Ok(left)
 }

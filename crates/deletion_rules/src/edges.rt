@@ -1,7 +1,6 @@
-ghost use Rattle.std.specs.Prelude.{◌≡◌, ◌+◌, ◌<◌, length, slice_index_or, IfOk, OnOk};
+ghost use Rattle.std.specs.Prelude.{◌≡◌, ◌+◌, ◌<◌, length, IfOk, OnOk};
 ghost use Rattle.closure_sets.specs.ClosureParts.{count};
 ghost use Rattle.deletion_rules.specs.Edges.{is_next, AreArrows, AreEdges, AreParents};
-ghost use Rattle.tableau_graph.specs.TableauParts.{edges_at};
 
 use crate::lists::Lists;
 use pair_structure::Memory;
@@ -51,7 +50,7 @@ fn add_parent(t: &Tableau, or: u64, parents: &mut Lists<u64>) -> Result<(), Memo
     requires before { AreParents t.now or parents.old }
     ensures { OnOk result (AreParents t.now (or + 1) parents.new) }
 {
-    let _nodes = t.ands();
+    t.tell_rules();
     for child in t.children(or) {
         parents.push(*child, or)?;
     }
@@ -75,23 +74,15 @@ fn add_arrows(t: &Tableau, and: u64, arrows: &mut Lists<Arrow>) -> Result<(), Me
     requires before { AreArrows t.now and arrows.old }
     ensures { OnOk result (AreArrows t.now (and + 1) arrows.new) }
 {
-    let _nodes = t.ands();
+    t.tell_rules();
     let mut place = 0;
     for member in 0..t.closure().count() {
         if is_next(t, and, member) {
-            arrows.push(successor_at(t, and, place), Arrow { node: and, member })?;
+            arrows.push(t.successor_at(and, place), Arrow { node: and, member })?;
             place += 1;
         }
     }
     Ok(())
-}
-
-/// The OR node at this place of the node's successors.
-fn successor_at(t: &Tableau, and: u64, place: usize) -> u64
-    requires { and < length t.now.ands }
-    ensures { result ≡ slice_index_or (edges_at t.now.successors and) place 0 }
-{
-    t.successors(and).get(place).copied().unwrap_or(0)
 }
 
 /// Whether the member is some EXs h of the node's row.
@@ -100,6 +91,6 @@ fn is_next(t: &Tableau, and: u64, member: u32) -> bool
     requires member { member < count t.now.closure }
     ensures { result ≡ is_next t.now and member }
 {
-    let _few = t.closure().count();
+    t.closure().tell_members();
     t.ands()[and as usize].row.has(member) && is_some_next(t.closure().part(member))
 }

@@ -5,8 +5,8 @@ use crate::cursors::flags;
 use crate::deleting::{left_of, living_count};
 use crate::edges::Edges;
 use crate::table::table_of;
+use crate::target::targets_of;
 use crate::thinning::thin;
-use crate::untils::strong_untils;
 use pair_structure::Memory;
 use std::alloc::Global;
 use tableau_graph::{Tableau, tableau_covers, tableau_is_graph};
@@ -27,11 +27,11 @@ pub(crate) fn what_lasts(alloc: Global, t: &Tableau) -> Result<Lasting, Memory>
     tableau_is_graph();
     tableau_covers();
     let edges = Edges::of(alloc, t)?;
-    let untils = strong_untils(alloc, t.closure())?;
+    let targets = targets_of(alloc, t.closure())?;
     let mut lives = thin(alloc, t, &edges, flags(alloc, nodes, true)?)?;
     loop {
         let table = table_of(alloc, t, &edges, &lives)?;
-        let left = left_of(alloc, t, &untils, &lives, &table)?;
+        let left = left_of(alloc, t, &targets, &lives, &table)?;
         if living_count(&left) == living_count(&lives) {
             return Ok(Lasting { lives, table });
         }

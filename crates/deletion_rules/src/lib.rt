@@ -4,7 +4,6 @@
 mod cursors;
 mod deleting;
 mod edges;
-mod goal;
 mod lasting;
 mod laws;
 mod lists;
@@ -14,8 +13,8 @@ mod pruning;
 mod ranks;
 mod reaching;
 mod table;
+mod target;
 mod thinning;
-mod untils;
 mod visiting;
 
 pub use laws::{
@@ -25,3 +24,4 @@ pub use laws::{
 pub use position::Position;
 pub use pruning::{Pruned, prune};
 pub use ranks::Ranks;
+pub use target::{Target, targets_of};

@@ -3,37 +3,34 @@ ghost use Rattle.deletion_rules.specs.Cursors.{AreCursors};
 ghost use Rattle.deletion_rules.specs.Edges.{AreEdges};
 ghost use Rattle.deletion_rules.specs.Marks.{lives_of, open_count, AreMarks};
 ghost use Rattle.deletion_rules.specs.Spread.{AreFirst, IsSpread};
-ghost use Rattle.deletion_rules.specs.Tests.{is_met, IsGoal};
+ghost use Rattle.deletion_rules.specs.Targets.{IsTarget};
+ghost use Rattle.deletion_rules.specs.Tests.{is_met};
 ghost use Rattle.tableau_graph.specs.Graph.{graph_of};
 
 use crate::cursors::{cursors, flags};
 use crate::edges::Edges;
-use crate::goal::Goal;
 use crate::reaching::reach;
-use crate::visiting::{Front, visit_each};
+use crate::visiting::{Front, Marking, visit_each};
 use pair_structure::Memory;
 use std::alloc::Global;
-use tableau_graph::{Tableau, tableau_is_graph};
+use tableau_graph::tableau_is_graph;
 
-/// The round in which a strong until is seen to be fulfilled at each living node that has it: its least rank. A round goes from the nodes that
-/// were marked last to their parents, and from those that were not reached before to the nodes that lead there: linear in nodes and edges,
-/// over all rounds.
+/// The round in which a target is seen to be fulfilled at each living node that has it. A round goes from the nodes that were marked last to
+/// their parents, and from those that were not reached before to the nodes that lead there: linear in nodes and edges, over all rounds.
 pub(crate) fn mark(
     alloc: Global,
-    t: &Tableau,
+    m: &Marking<'_>,
     edges: &Edges,
-    lives: &[bool],
-    goal: Goal,
 ) -> Result<Vec<Option<u64>>, Memory>
-    requires lives { length lives.now ≡ length t.now.ands }
-    requires edges { AreEdges t.now edges.now.parents edges.now.arrows }
-    requires goal { IsGoal t.now.closure goal }
-    ensures { IfOk result (λ marks. AreMarks t.now.closure (graph_of t.now) (lives_of lives.now) goal.all goal.member goal.f goal.second marks.items) }
+    requires lives { length m.now.lives.now ≡ length m.now.tableau.now.ands }
+    requires edges { AreEdges m.now.tableau.now edges.now.parents edges.now.arrows }
+    requires target { IsTarget m.now.tableau.now.closure m.now.target }
+    ensures { IfOk result (λ marks. AreMarks m.now.tableau.now.closure (graph_of m.now.tableau.now) (lives_of m.now.lives.now) m.now.target.all m.now.target.member m.now.target.f m.now.target.g marks.items) }
 {
     tableau_is_graph();
-    let mut front = first_front(alloc, t, lives, goal)?;
-    let mut reached = flags(alloc, t.ors().len(), false)?;
-    spread(alloc, t, edges, lives, goal, &mut reached, &mut front)?;
+    let mut front = first_front(alloc, m)?;
+    let mut reached = flags(alloc, m.tableau.ors().len(), false)?;
+    spread(alloc, m, edges, &mut reached, &mut front)?;
     let Front { marks, .. } = front;
     Ok(marks)
 }
@@ -41,45 +38,43 @@ pub(crate) fn mark(
 /// Lets the marks spread, a round at a time.
 fn spread(
     alloc: Global,
-    t: &Tableau,
+    m: &Marking<'_>,
     edges: &Edges,
-    lives: &[bool],
-    goal: Goal,
     reached: &mut [bool],
     front: &mut Front,
 ) -> Result<(), Memory>
-    requires lives { length lives.now ≡ length t.now.ands }
-    requires edges { AreEdges t.now edges.now.parents edges.now.arrows }
-    requires goal { IsGoal t.now.closure goal }
-    requires spread { IsSpread t.now lives.now goal 1 front.old.marks.items reached.old front.old.nodes.items }
-    requires cursors { AreCursors (length t.now.ands) t.now.successors reached.old true front.old.cursors.items }
-    requires few { open_count front.old.marks.items + length front.old.nodes.items ≤ length t.now.ands }
-    ensures { OnOk result (AreMarks t.now.closure (graph_of t.now) (lives_of lives.now) goal.all goal.member goal.f goal.second front.new.marks.items) }
+    requires lives { length m.now.lives.now ≡ length m.now.tableau.now.ands }
+    requires edges { AreEdges m.now.tableau.now edges.now.parents edges.now.arrows }
+    requires target { IsTarget m.now.tableau.now.closure m.now.target }
+    requires spread { IsSpread m.now.tableau.now m.now.lives.now m.now.target 1 front.old.marks.items reached.old front.old.nodes.items }
+    requires cursors { AreCursors (length m.now.tableau.now.ands) m.now.tableau.now.successors reached.old true front.old.cursors.items }
+    requires few { open_count front.old.marks.items + length front.old.nodes.items ≤ length m.now.tableau.now.ands }
+    ensures { OnOk result (AreMarks m.now.tableau.now.closure (graph_of m.now.tableau.now) (lives_of m.now.lives.now) m.now.target.all m.now.target.member m.now.target.f m.now.target.g front.new.marks.items) }
 {
-    let _nodes = t.ands();
+    m.tableau.tell_rules();
     let mut round = 0;
     while front.nodes.len() > 0 {
         round += 1;
         let ors = reach(alloc, &edges.parents, &front.nodes, reached)?;
         front.nodes = Vec::new(alloc);
-        visit_each(t, &edges.arrows, lives, reached, goal, round, &ors, front)?;
+        visit_each(m, &edges.arrows, reached, round, &ors, front)?;
     }
     Ok(())
 }
 
-/// Marks the nodes where the until is met.
-fn first_front(alloc: Global, t: &Tableau, lives: &[bool], goal: Goal) -> Result<Front, Memory>
-    requires lives { length lives.now ≡ length t.now.ands }
-    requires goal { IsGoal t.now.closure goal }
-    ensures first { IfOk result (λ front. AreFirst t.now lives.now goal (length t.now.ands) front.marks.items front.nodes.items) }
-    ensures cursors { IfOk result (λ front. front.cursors.items ≡ replicate (length t.now.ands) 0) }
+/// Marks the nodes where the target is met.
+fn first_front(alloc: Global, m: &Marking<'_>) -> Result<Front, Memory>
+    requires lives { length m.now.lives.now ≡ length m.now.tableau.now.ands }
+    requires target { IsTarget m.now.tableau.now.closure m.now.target }
+    ensures first { IfOk result (λ front. AreFirst m.now.tableau.now m.now.lives.now m.now.target (length m.now.tableau.now.ands) front.marks.items front.nodes.items) }
+    ensures cursors { IfOk result (λ front. front.cursors.items ≡ replicate (length m.now.tableau.now.ands) 0) }
 {
-    let count = t.ands().len();
+    let count = m.tableau.ands().len();
     let cursors = cursors(alloc, count)?;
     let mut marks = Vec::with_capacity(alloc, count)?;
     let mut nodes = Vec::new(alloc);
     for n in 0..count {
-        if is_met(t, lives, goal, n as u64) {
+        if is_met(m, n as u64) {
             nodes.push(n as u64)?;
             marks.push(Some(0))?;
         } else {
@@ -93,13 +88,14 @@ fn first_front(alloc: Global, t: &Tableau, lives: &[bool], goal: Goal) -> Result
     })
 }
 
-/// Whether the node lives, and has the until and its second part.
-fn is_met(t: &Tableau, lives: &[bool], goal: Goal, n: u64) -> bool
-    requires n { n < length t.now.ands }
-    requires lives { length lives.now ≡ length t.now.ands }
-    requires goal { IsGoal t.now.closure goal }
-    ensures { result ≡ is_met t.now lives.now goal n }
+/// Whether the node lives, and has the target and its part g.
+fn is_met(m: &Marking<'_>, n: u64) -> bool
+    requires n { n < length m.now.tableau.now.ands }
+    requires lives { length m.now.lives.now ≡ length m.now.tableau.now.ands }
+    requires target { IsTarget m.now.tableau.now.closure m.now.target }
+    ensures { result ≡ is_met m.now.tableau.now m.now.lives.now m.now.target n }
 {
-    let row = t.ands()[n as usize].row;
-    lives[n as usize] && row.has(goal.member) && row.has(goal.second)
+    m.tableau.closure().tell_members();
+    let row = m.tableau.ands()[n as usize].row;
+    m.lives[n as usize] && row.has(m.target.member) && row.has(m.target.g)
 }

@@ -32,7 +32,7 @@ fn outcome_of(t: Tableau, left: Lasting) -> Pruned
     requires { IsLasting t left.lives.items left.table.items }
     ensures { IsPruned t result }
 {
-    let _nodes = t.ands();
+    t.tell_rules();
     tableau_is_graph();
     tableau_root_covers();
     kept_is_satisfiable();

@@ -5,8 +5,9 @@ ghost use Rattle.deletion_rules.specs.Marks.{lists_of, lives_of, AreMarksOf, Are
 ghost use Rattle.tableau_graph.specs.Graph.{graph_of};
 
 use crate::edges::Edges;
-use crate::goal::Goal;
 use crate::marking::mark;
+use crate::target::Target;
+use crate::visiting::Marking;
 use ctl_form::Part;
 use pair_structure::Memory;
 use std::alloc::Global;
@@ -25,7 +26,7 @@ fn marks_of(
     requires member { member < count t.now.closure }
     ensures { IfOk result (λ marks. AreMarksOf t.now.closure (graph_of t.now) (lives_of lives.now) member marks.items) }
 {
-    let _tableau = t.ands();
+    t.tell_rules();
     let Part::Until {
         all,
         weak: false,
@@ -35,13 +36,12 @@ fn marks_of(
     else {
         return Ok(Vec::new(alloc));
     };
-    let goal = Goal {
-        all,
-        member,
-        f,
-        second: g,
+    let m = Marking {
+        tableau: t,
+        lives,
+        target: Target { all, member, f, g },
     };
-    let marks = mark(alloc, t, edges, lives, goal)?;
+    let marks = mark(alloc, &m, edges)?;
     Ok(marks)
 }
 

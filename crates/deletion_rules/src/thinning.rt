@@ -101,7 +101,7 @@ fn lose(t: &Tableau, or: u64, thinning: &mut Thinning, ors: &mut Vec<u64>) -> Re
     requires thinning { IsThinning t.now thinning.old }
     ensures { OnOk result (Loses t.now thinning.old ors.old.items thinning.new ors.new.items) }
 {
-    let _nodes = t.ands();
+    t.tell_rules();
     if thinning.lost[or as usize] {
         return Ok(());
     }
@@ -165,7 +165,7 @@ fn delete(
     requires thinning { IsThinning t.now thinning.old }
     ensures { OnOk result (Deletes t.now thinning.old nodes.old.items thinning.new nodes.new.items) }
 {
-    let _nodes = t.ands();
+    t.tell_rules();
     tableau_is_graph();
     tableau_covers();
     if thinning.lives[arrow.node as usize] {

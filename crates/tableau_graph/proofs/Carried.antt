@@ -1,7 +1,7 @@
 -- What next-times carry, and the OR nodes that a row's members lead to.
 use Rattle.std.proofs.Common.{ℕ, suc, ◌≡◌, ◌⊎◌, ◌<◌, ◌≤◌, ◌+◌, ◌++◌, ◌&&◌, inl, inr, Bool, true, false, Option, Some, None, List, [], ◌∷◌, length, length-append, add-one, refl, subst, sym, ◌∙◌, ap, arith, slice_get}
 use Rattle.std.specs.Option.{option_to_list}
-use Rattle.std.proofs.lemmas.Bool.{cases_lt}
+use Rattle.std.proofs.lemmas.Bool.{cases_lt, and_from}
 use Rattle.std.proofs.lemmas.List.{append-nil}
 use Rattle.pair_structure.specs.declared.side.Side.{Side}
 use Rattle.ctl_form.specs.declared.part.Part.{Part}
@@ -76,12 +76,9 @@ carried_whole c row side h carried seed below e j = (there, back)
     back : (j ≡ h) ⊎ ((x : ℕ) × (part_of c x ≡ Next true side j) × Has row x) → Has seed j
     back k = subst (λ (m : Members). m j ≡ true) (sym e) (added k)
 
-both_hold : (a b : Bool) → a ≡ true → b ≡ true → (a && b) ≡ true
-both_hold a b p q = rw (p, q) refl
-
 -- the OR node for a member of the row that is some EXs h
 pub next_found : (c : ClosureParts) (node : AndNode) (i h : ℕ) (side : Side) (carried : Members) (o : OrNode) → row_of node i ≡ true → part_of c i ≡ Next false side h → IsCarriedBelow c (row_of node) side (count c) carried → o ≡ record { side = Some side; a = node.a; b = node.b; row = o.row } → set_of o.row.words ≡ add carried h → IsNextNode c node i (Some o)
-next_found c node i h side carried o has is below whole seed = (both_hold (row_of node i) (is_some_next (part_of c i)) has (ap is_some_next is), at)
+next_found c node i h side carried o has is below whole seed = (and_from (row_of node i) (is_some_next (part_of c i)) has (ap is_some_next is), at)
   where
     at : (h' : ℕ) (side' : Side) → part_of c i ≡ Next false side' h' → IsSuccessor c node side' h' o
     at h' side' is' =
@@ -104,7 +101,7 @@ next_suc c node n nodes nodes' None are is e = subst (AreNextNodes c node (suc n
     long = are.long ∙ sym (ap (λ (b : Bool). one_more b (somes_below c (row_of node) n)) is)
 
     each : (i h : ℕ) (side : Side) → i < suc n → part_of c i ≡ Next false side h → Has (row_of node) i → (o : OrNode) × (slice_get nodes (somes_below c (row_of node) i) ≡ Some o) × IsSuccessor c node side h o
-    each i h side lt part has = elim (cases_lt i n) [ inl below ↦ are.each i h side below part has | inr ge ↦ absurd (let le : n ≤ i = ge in let at : i ≡ n = omega (arith, lt, le) in false_true (sym is ∙ subst (λ (k : ℕ). (row_of node k && is_some_next (part_of c k)) ≡ true) at (both_hold (row_of node i) (is_some_next (part_of c i)) has (ap is_some_next part)))) ]
+    each i h side lt part has = elim (cases_lt i n) [ inl below ↦ are.each i h side below part has | inr ge ↦ absurd (let le : n ≤ i = ge in let at : i ≡ n = omega (arith, lt, le) in false_true (sym is ∙ subst (λ (k : ℕ). (row_of node k && is_some_next (part_of c k)) ≡ true) at (and_from (row_of node i) (is_some_next (part_of c i)) has (ap is_some_next part)))) ]
 next_suc c node n nodes nodes' (Some o) are is e = subst (AreNextNodes c node (suc n)) (sym e) (record { long = long; each = each })
   where
     long : length (nodes ++ o ∷ []) ≡ somes_below c (row_of node) (suc n)

@@ -1,6 +1,7 @@
 ghost use Rattle.std.specs.Prelude.{◌≡◌, ◌<◌, ◌↔◌, ℕ, Contains, IfOk, OnOk, length, true, false};
 ghost use Rattle.closure_sets.specs.Full.{Has};
 ghost use Rattle.closure_sets.specs.Row.{set_of};
+ghost use Rattle.pair_structure.specs.Role.{IsRole};
 ghost use Rattle.tableau_graph.specs.Growing.{parts_of, room_of};
 ghost use Rattle.tableau_graph.specs.Rules.{FollowsRules, IsTableau};
 ghost use Rattle.tableau_graph.specs.TableauParts.{and_at, or_at};
@@ -27,9 +28,9 @@ impl Growing {
     pub(crate) fn start(alloc: Global, c: &Closure, a: &Role, b: &Role) -> Result<Growing, Memory>
         ensures { IfOk result (λ g. FollowsRules (parts_of c.now a.now b.now g)) }
     {
-        let _closure = c.count();
-        let _role_a = a.locals();
-        let _role_b = b.locals();
+        c.tell_members();
+        tell_role(a);
+        tell_role(b);
         let mut ors = NodeTable::new(alloc);
         ors.number(root_node(c, a, b))?;
         Ok(Growing {
@@ -64,14 +65,16 @@ impl Growing {
         Ok(false)
     }
 
-    fn next_or(&self) -> OrNode
+    /// The OR node that is expanded next.
+    fn open_or(&self) -> OrNode
         requires { length self.now.children.items < length self.now.ors }
         ensures { result ≡ or_at self.now.ors (length self.now.children.items) }
     {
         self.ors.nodes()[self.children.len()]
     }
 
-    fn next_and(&self) -> AndNode
+    /// The AND node that is expanded next.
+    fn open_and(&self) -> AndNode
         requires { length self.now.successors.items < length self.now.ands }
         ensures { result ≡ and_at self.now.ands (length self.now.successors.items) }
     {
@@ -84,11 +87,11 @@ impl Growing {
         ensures rules { OnOk result (FollowsRules (parts_of c.now a.now b.now self.new)) }
         ensures room { OnOk result (room_of self.new < room_of self.old) }
     {
-        let node = self.next_or();
+        let node = self.open_or();
         let pairs = pairs_of(alloc, a, b, &node)?;
         let nodes = nodes_at(alloc, c, &pairs, &node.row)?;
         let numbers = self.ands.number_each(alloc, &nodes)?;
-        let _apart = self.ands.nodes();
+        self.ands.tell_apart();
         self.children.push(numbers)?;
         Ok(())
     }
@@ -99,10 +102,10 @@ impl Growing {
         ensures rules { OnOk result (FollowsRules (parts_of c.now _a.now _b.now self.new)) }
         ensures room { OnOk result (room_of self.new < room_of self.old) }
     {
-        let node = self.next_and();
+        let node = self.open_and();
         let nodes = next_nodes(alloc, c, &node)?;
         let numbers = self.ors.number_each(alloc, &nodes)?;
-        let _apart = self.ors.nodes();
+        self.ors.tell_apart();
         self.successors.push(numbers)?;
         Ok(())
     }
@@ -126,10 +129,17 @@ fn root_node(c: &Closure, a: &Role, b: &Role) -> OrNode
 fn root_row(c: &Closure) -> Row
     ensures { (j : ℕ) → Has (set_of result.words) j ↔ Contains c.now.roots j }
 {
-    let _closure = c.count();
+    c.tell_members();
     let mut row = Row::empty();
     for root in c.roots() {
         row.add(*root);
     }
     row
+}
+
+/// Tells a proof that a role is one. It does nothing else.
+fn tell_role(role: &Role)
+    ensures { IsRole role.now }
+{
+    let _locals = role.locals();
 }

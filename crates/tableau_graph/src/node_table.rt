@@ -1,4 +1,4 @@
-ghost use Rattle.std.specs.Prelude.{◌≡◌, ◌++◌, ◌∷◌, [], ℕ, length, IfOk, OnOk, MatchOption, Some, slice_get};
+ghost use Rattle.std.specs.Prelude.{◌≡◌, ◌++◌, ◌∷◌, [], ℕ, length, IfOk, OnErr, OnOk, MatchOption, Some, slice_get};
 ghost use Rattle.tableau_graph.specs.NodeTable.{IsNumber, AreNumbers};
 ghost use Rattle.tableau_graph.specs.Rules.{AreApart};
 
@@ -33,6 +33,7 @@ impl<N: Node> Model for NodeTable<N> {
 }
 
 impl<N: Node> NodeTable<N> {
+    /// The table without nodes.
     pub fn new(alloc: Global) -> NodeTable<N>
         ensures { result ≡ [] }
     {
@@ -42,6 +43,7 @@ impl<N: Node> NodeTable<N> {
         }
     }
 
+    /// The nodes, in the order of their numbers.
     pub fn nodes(&self) -> &[N]
         ensures same { result.now ≡ self.now }
         ensures apart { AreApart self.now }
@@ -49,6 +51,14 @@ impl<N: Node> NodeTable<N> {
         &self.nodes
     }
 
+    /// Tells a proof that no node stands twice. It does nothing.
+    pub(crate) fn tell_apart(&self)
+        ensures { AreApart self.now }
+    {
+        let _nodes = self.nodes();
+    }
+
+    /// The nodes as a list of their own.
     pub fn into_nodes(self) -> Vec<N>
         ensures same { result.items ≡ self }
         ensures apart { AreApart self }
@@ -56,9 +66,11 @@ impl<N: Node> NodeTable<N> {
         self.nodes
     }
 
-    /// The number of the node, which gets the next one if it has none. One look-up in the map, and a second for a new node.
+    /// The number of the node, which gets the next one if it has none. At want of memory the table stays as it was. One look-up in the map, and
+    /// a second for a new node.
     pub fn number(&mut self, node: N) -> Result<u64, Memory>
-        ensures { IfOk result (λ n. IsNumber self.old node self.new n) }
+        ensures number { IfOk result (λ n. IsNumber self.old node self.new n) }
+        ensures kept { OnErr result (self.new ≡ self.old) }
     {
         if let Some(n) = self.find(node) {
             return Ok(n);
@@ -80,6 +92,7 @@ impl<N: Node> NodeTable<N> {
         requires new { (n : ℕ) → slice_get self.old n ≡ Some node → ⊥ }
         ensures number { IfOk result (λ n. n ≡ length self.old) }
         ensures added { OnOk result (self.new ≡ self.old ++ node ∷ []) }
+        ensures kept { OnErr result (self.new ≡ self.old) }
     {
         let n = self.nodes.len() as u64;
         self.nodes.push(node)?;
@@ -93,7 +106,7 @@ impl<N: Node> NodeTable<N> {
     }
 
     /// The numbers of these nodes, in their order.
-    pub fn number_each(&mut self, alloc: Global, nodes: &[N]) -> Result<Vec<u64>, Memory>
+    pub(crate) fn number_each(&mut self, alloc: Global, nodes: &[N]) -> Result<Vec<u64>, Memory>
         ensures { IfOk result (λ numbers. AreNumbers self.old nodes.now self.new numbers.items) }
     {
         let mut numbers = Vec::with_capacity(alloc, nodes.len())?;

@@ -42,7 +42,7 @@ fn next_node(
     requires b { IsCarriedBelow c.now (set_of node.now.row.words) B (count c.now) (set_of carried_b.now.words) }
     ensures { IsNextNode c.now node.now member result }
 {
-    let _closure = c.count();
+    c.tell_members();
     if !node.row.has(member) {
         return None;
     }

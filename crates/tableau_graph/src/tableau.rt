@@ -58,6 +58,13 @@ impl Tableau {
         })
     }
 
+    /// Tells a proof that this is a tableau by the rules. It does nothing.
+    pub fn tell_rules(&self)
+        ensures { IsTableau self.now }
+    {
+        let _ors = &self.ors;
+    }
+
     /// The closure of which rows are sets.
     pub fn closure(&self) -> &Closure
         ensures { result.now ≡ self.now.closure }

@@ -1,5 +1,6 @@
 -- The node that is picked is a best one.
 use Rattle.std.proofs.Common.{ℕ, ◌≡◌, ◌⊎◌, ◌≤◌, ◌&&◌, inl, inr, Bool, true, false, cond, Option, Some, None, List, [], ◌∷◌, Contains, refl, subst, sym, arith, ◌∙◌, nat_lt}
+use Rattle.std.proofs.lemmas.Bool.{and_parts}
 use Rattle.std.proofs.lemmas.List.Elements.{Contains-append_left, Contains-append_right, Contains-append_cases, Contains-push, Contains-push_cases}
 use Rattle.deletion_rules.specs.Picking.{IsBest}
 use Rattle.unravel.specs.Choice.{best_from, is_lower}
@@ -24,10 +25,6 @@ lower_no : (x y : Option ℕ) → is_lower x y ≡ false → (j : ℕ) → x ≡
 lower_no None y e j h = absurd (let z : None ≡ Some j = h in cc)
 lower_no (Some i) None e j h = absurd (let z : true ≡ false = e in cc)
 lower_no (Some i) (Some k) e j h = let same : i ≡ j = (let z : Some i ≡ Some j = h in cc) in let ge : nat_lt i k ≡ false = e in (k, refl, grind (arith, ge, same))
-
-both_true : (a b : Bool) → a && b ≡ true → (a ≡ true) × (b ≡ true)
-both_true true b e = (refl, e)
-both_true false b e = absurd (let z : false ≡ true = e in cc)
 
 both_false : (a b : Bool) → a && b ≡ false → a ≡ true → b ≡ false
 both_false true b e h = e
@@ -66,7 +63,7 @@ module _ (lives : ℕ → Bool) (rank : ℕ → Option ℕ) where
   from_some (n ∷ ns) b0 l = by (lives n && is_lower (rank n) (rank b0)) refl (from_some ns n) (from_some ns b0 l)
     where
       by : (t : Bool) → (lives n && is_lower (rank n) (rank b0)) ≡ t → (lives n ≡ true → FromSome n ns) → FromSome b0 ns → (b : ℕ) × (best_from lives rank (cond t (Some n) (Some b0)) ns ≡ Some b) × IsBest lives rank (b0 ∷ n ∷ ns) b
-      by true e more same = let u = both_true (lives n) (is_lower (rank n) (rank b0)) e in let v = more u.0 in (v.0, v.1, taken b0 n ns u.1 v.0 v.2 u.0)
+      by true e more same = let u = and_parts (lives n) (is_lower (rank n) (rank b0)) e in let v = more u.0 in (v.0, v.1, taken b0 n ns u.1 v.0 v.2 u.0)
       by false e more same = (same.0, same.1, passed b0 n ns (both_false (lives n) (is_lower (rank n) (rank b0)) e) same.0 same.2 l)
 
   abbrev FromNone : List ℕ → Type 0

@@ -18,7 +18,7 @@ use Rattle.deletion_rules.specs.declared.position.Position.{Position}
 use Rattle.unravel.specs.Growing.{IsGrown, IsSideIn, IsSideOf, IsTurn, nowhere, position_at}
 use Rattle.unravel.specs.Pursuit.{IsGoodFor, IsPickFor}
 use Rattle.unravel.specs.declared.growing.Turn.{Turn}
-use Rattle.unravel.specs.declared.target.Target.{Target}
+use Rattle.deletion_rules.specs.declared.target.Target.{Target}
 use Rattle.unravel.proofs.GrowingLaws.{grown_more, grown_next, grown_skip}
 
 counted : (b : Bool) (n : ℕ) → b ≡ true → one_more b n ≡ n + 1

@@ -19,7 +19,7 @@ use Rattle.deletion_rules.specs.declared.position.Position.{Position}
 use Rattle.unravel.specs.Choice.{plan_of}
 use Rattle.unravel.specs.Growing.{HasStepFor, IsExpanded, IsGrown, IsLinkFor, IsMoveFor, nowhere, position_at}
 use Rattle.unravel.specs.Pursuit.{IsGoodFor, IsPickFor}
-use Rattle.unravel.specs.declared.target.Target.{Target}
+use Rattle.deletion_rules.specs.declared.target.Target.{Target}
 
 -- the positions so far keep their places
 pub record IsLonger (before after : List Position) : Type 0 where

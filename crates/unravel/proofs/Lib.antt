@@ -6,5 +6,4 @@ pub mod Plans
 pub mod Pursuits
 pub mod Stepping
 pub mod Synthesized
-pub mod TargetLaws
 pub mod Whole

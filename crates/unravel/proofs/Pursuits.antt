@@ -1,5 +1,6 @@
 -- Which targets pend in a row, by the test.
 use Rattle.std.proofs.Common.{ℕ, ◌≡◌, ◌<◌, ◌≤◌, ◌&&◌, Bool, true, false, not, List, length, map, refl, subst, sym, arith, ◌∙◌, slice_index_or}
+use Rattle.std.proofs.lemmas.Bool.{and_parts}
 use Rattle.std.proofs.lemmas.List.{get_or-map, length-map, get_or_past}
 use Rattle.ctl_form.specs.Members.{IsBelow}
 use Rattle.ctl_form.specs.declared.part.Part.{Part}
@@ -10,15 +11,12 @@ use Rattle.closure_sets.specs.Label.{part_of}
 use Rattle.closure_sets.specs.Row.{Members}
 use Rattle.deletion_rules.specs.Unravel.{IsPending}
 use Rattle.unravel.specs.Choice.{member_of}
-use Rattle.unravel.specs.Targets.{AreTargets, IsTarget, no_target, pends, pends_at, target_in}
-use Rattle.unravel.specs.declared.target.Target.{Target}
+use Rattle.deletion_rules.specs.Targets.{AreTargets, IsTarget, no_target, target_in}
+use Rattle.unravel.specs.Targets.{pends, pends_at}
+use Rattle.deletion_rules.specs.declared.target.Target.{Target}
 
 same_second : (part : Part) (all all' : Bool) (f f' q q' : ℕ) → part ≡ Until all false f q → part ≡ Until all' false f' q' → q ≡ q'
 same_second part all all' f f' q q' e e' = cc
-
-both_true : (a b : Bool) → a && b ≡ true → (a ≡ true) × (b ≡ true)
-both_true true b e = (refl, e)
-both_true false b e = absurd (let z : false ≡ true = e in cc)
 
 no_has : (b : Bool) → not b ≡ true → b ≡ true → ⊥
 no_has true e h = let z : false ≡ true = e in cc
@@ -30,18 +28,18 @@ pends_in a false e none = rw e refl
 
 module _ (c : ClosureParts) (row : Members) (t : Target) (is : IsTarget c t) where
   pub pending_by : pends row t ≡ true → IsPending c row t.all t.member
-  pending_by e = let b = both_true (row t.member) (not (row t.second)) e in (is.first, t.second, is.part, b.0, no_has (row t.second) b.1)
+  pending_by e = let b = and_parts (row t.member) (not (row t.g)) e in (t.f, t.g, is.part, b.0, no_has (row t.g) b.1)
 
   pub not_pending_by : pends row t ≡ false → (all : Bool) → IsPending c row all t.member → ⊥
   not_pending_by e all x =
-      let same = same_second (part_of c t.member) all t.all x.0 is.first x.1 t.second x.2 is.part in
-      let no_second : row t.second ≡ true → ⊥ = λ h. x.4 (subst (λ q. Has row q) (sym same) h) in
-      let z : false ≡ true = sym e ∙ pends_in (row t.member) (row t.second) x.3 no_second in cc
+      let same = same_second (part_of c t.member) all t.all x.0 t.f x.1 t.g x.2 is.part in
+      let no_second : row t.g ≡ true → ⊥ = λ h. x.4 (subst (λ q. Has row q) (sym same) h) in
+      let z : false ≡ true = sym e ∙ pends_in (row t.member) (row t.g) x.3 no_second in cc
 
-abbrev pub goal_at : List Target → ℕ → ℕ
-goal_at targets y = slice_index_or (map member_of targets) y 0
+abbrev pub member_in : List Target → ℕ → ℕ
+member_in targets y = slice_index_or (map member_of targets) y 0
 
-pub goal_is : (targets : List Target) (y : ℕ) → y < length targets → goal_at targets y ≡ (target_in targets y).member
+pub goal_is : (targets : List Target) (y : ℕ) → y < length targets → member_in targets y ≡ (target_in targets y).member
 goal_is targets y lt = get_or-map member_of targets y no_target 0 lt
 
 -- the first member is no until, since it has no parts
@@ -52,13 +50,13 @@ module _ (c : ClosureParts) (k : IsClosureParts c) (row : Members) (targets : Li
   target_is : y < length targets → IsTarget c (target_in targets y)
   target_is lt = are.each y no_target lt
 
-  pub pends_here : y < length targets → pends_at row targets y ≡ true → IsPending c row (target_in targets y).all (goal_at targets y)
+  pub pends_here : y < length targets → pends_at row targets y ≡ true → IsPending c row (target_in targets y).all (member_in targets y)
   pends_here lt e = subst (λ u. IsPending c row (target_in targets y).all u) (sym (goal_is targets y lt)) (pending_by c row (target_in targets y) (target_is lt) e)
 
-  pub not_here : y < length targets → pends_at row targets y ≡ false → (all : Bool) → IsPending c row all (goal_at targets y) → ⊥
+  pub not_here : y < length targets → pends_at row targets y ≡ false → (all : Bool) → IsPending c row all (member_in targets y) → ⊥
   not_here lt e all x = not_pending_by c row (target_in targets y) (target_is lt) e all (subst (λ u. IsPending c row all u) (goal_is targets y lt) x)
 
   -- past the last target nothing pends
-  pub none_past : length targets ≤ y → (all : Bool) → IsPending c row all (goal_at targets y) → ⊥
-  none_past le all x = let e : goal_at targets y ≡ 0 = get_or_past (map member_of targets) y 0 (omega (arith, le, length-map targets member_of)) in
+  pub none_past : length targets ≤ y → (all : Bool) → IsPending c row all (member_in targets y) → ⊥
+  none_past le all x = let e : member_in targets y ≡ 0 = get_or_past (map member_of targets) y 0 (omega (arith, le, length-map targets member_of)) in
       let some : 0 < count c = omega (arith, k.moves.1) in first_pends c k some row all (subst (λ u. IsPending c row all u) e x)

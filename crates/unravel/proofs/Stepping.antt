@@ -18,7 +18,7 @@ use Rattle.unravel.specs.Pursuit.{AreAllTargets, IsGoodFor, IsPickFor, IsPursuit
 use Rattle.unravel.specs.Targets.{pends_at, places}
 use Rattle.unravel.specs.declared.pursuit.Pursuit.{Pursuit}
 use Rattle.unravel.specs.declared.pursuit.Pursuit.TheVariants.{Each, Along, Idle}
-use Rattle.unravel.specs.declared.target.Target.{Target}
+use Rattle.deletion_rules.specs.declared.target.Target.{Target}
 use Rattle.unravel.proofs.Plans.{is_plan}
 use Rattle.unravel.proofs.Pursuits.{none_past, not_here}
 

@@ -19,7 +19,7 @@ use Rattle.unravel.specs.Choice.{member_of, plan_of}
 use Rattle.unravel.specs.Growing.{IsGrown, labels_of, nowhere, position_at}
 use Rattle.unravel.specs.Pursuit.{AreAllTargets}
 use Rattle.unravel.specs.Targets.{places}
-use Rattle.unravel.specs.declared.target.Target.{Target}
+use Rattle.deletion_rules.specs.declared.target.Target.{Target}
 use Rattle.unravel.proofs.Plans.{has_targets, is_plan}
 
 -- equal parts are a structure over equal roles

@@ -10,7 +10,7 @@ use Rattle.deletion_rules.specs.Picking.{or_zero}
 use Rattle.deletion_rules.specs.Pruned.{RankParts, lives_at, rank_at}
 use Rattle.deletion_rules.specs.Unravel.{Plan}
 use Rattle.deletion_rules.specs.declared.position.Position.{Position}
-use Rattle.unravel.specs.declared.target.Target.{Target}
+use Rattle.deletion_rules.specs.declared.target.Target.{Target}
 
 -- a rank that is there and below the other one, or alone there
 abbrev pub is_lower : Option ℕ → Option ℕ → Bool

@@ -14,7 +14,7 @@ use Rattle.unravel.specs.Choice.{plan_of}
 use Rattle.unravel.specs.Pursuit.{IsGoodFor}
 use Rattle.unravel.specs.declared.growing.Growing.{Growing}
 use Rattle.unravel.specs.declared.growing.Turn.{Turn}
-use Rattle.unravel.specs.declared.target.Target.{Target}
+use Rattle.deletion_rules.specs.declared.target.Target.{Target}
 
 abbrev pub nowhere : Position
 nowhere = record { node = 0; place = 0 }

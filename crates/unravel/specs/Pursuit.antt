@@ -7,10 +7,11 @@ use Rattle.deletion_rules.specs.Pruned.{RankParts, lives_at}
 use Rattle.deletion_rules.specs.Unravel.{IsPending, IsStep, target}
 use Rattle.deletion_rules.specs.declared.position.Position.{Position}
 use Rattle.unravel.specs.Choice.{keep_of, plan_of}
-use Rattle.unravel.specs.Targets.{AreTargets, places}
+use Rattle.deletion_rules.specs.Targets.{AreTargets}
+use Rattle.unravel.specs.Targets.{places}
 use Rattle.unravel.specs.declared.pursuit.Pursuit.{Pursuit}
 use Rattle.unravel.specs.declared.pursuit.Pursuit.TheVariants.{Each, Along, Idle}
-use Rattle.unravel.specs.declared.target.Target.{Target}
+use Rattle.deletion_rules.specs.declared.target.Target.{Target}
 
 -- the until u pends at the node on each path; or on some, and goes on through this OR node; or it does not pend
 abbrev pub IsPursuitBy : RankParts → ℕ → ℕ → Pursuit → Type 0

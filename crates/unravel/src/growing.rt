@@ -7,9 +7,8 @@ ghost use Rattle.unravel.specs.Pursuit.{AreAllTargets, IsGoodFor, IsPursuit};
 use crate::next_time::{side_of, successor};
 use crate::pursuit::{Pursuit, pursuit_of};
 use crate::step::step;
-use crate::tableau::tableau_of;
-use crate::target::Target;
-use deletion_rules::{Position, Ranks};
+use crate::tableau::{tableau_of, tell_alive};
+use deletion_rules::{Position, Ranks, Target};
 use pair_structure::{Memory, Move, Side};
 use std::alloc::Global;
 use tableau_graph::NodeTable;
@@ -102,7 +101,7 @@ impl Growing {
         requires turn { IsTurn ranks.now targets.now turn member place self.old.positions self.old.moves.items }
         ensures { IfOk result (λ next. IsTurn ranks.now targets.now turn (member + 1) next self.new.positions self.new.moves.items) }
     {
-        let _alive = tableau_of(ranks);
+        tell_alive(ranks);
         let Some(side) = side_of(ranks, turn.position.node, member) else {
             return Ok(place);
         };

@@ -7,12 +7,11 @@ ghost use Rattle.deletion_rules.specs.Picking.{or_zero};
 ghost use Rattle.deletion_rules.specs.Pruned.{rank_at};
 ghost use Rattle.tableau_graph.specs.Graph.{graph_of};
 ghost use Rattle.unravel.specs.Choice.{falls_by, has_lower, is_below, is_lower_at, keep_of};
-ghost use Rattle.unravel.specs.Targets.{IsTarget};
+ghost use Rattle.deletion_rules.specs.Targets.{IsTarget};
 
 use crate::child::children;
 use crate::tableau::tableau_of;
-use crate::target::Target;
-use deletion_rules::Ranks;
+use deletion_rules::{Ranks, Target};
 use pair_structure::Side;
 
 /// The OR node through which the node pursues a target E[f U g]: that of side a, if the rank falls there, and else that of side b.
@@ -34,7 +33,7 @@ fn next_time(ranks: &Ranks, side: Side, target: Target) -> u32
     ensures small { result < 512 }
 {
     let closure = tableau_of(ranks).closure();
-    let _count = closure.count();
+    closure.tell_members();
     closure.after(side, target.member)
 }
 

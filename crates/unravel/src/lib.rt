@@ -9,7 +9,6 @@ mod pursuit;
 mod step;
 mod synthesis;
 mod tableau;
-mod target;
 mod turns;
 mod unravelling;
 

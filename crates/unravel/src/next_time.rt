@@ -16,7 +16,7 @@ pub(crate) fn side_of(ranks: &Ranks, and: u64, member: u32) -> Option<Side>
     ensures { IsSideOf ranks.now and member result }
 {
     let closure = tableau_of(ranks).closure();
-    let _few = closure.count();
+    closure.tell_members();
     if !has_member(ranks, and, member) {
         return None;
     }
@@ -42,6 +42,5 @@ pub(crate) fn successor(ranks: &Ranks, and: u64, place: usize) -> u64
     requires { and < length ranks.now.tableau.ands }
     ensures { result ≡ slice_index_or (edges_at ranks.now.tableau.successors and) place 0 }
 {
-    let successors = tableau_of(ranks).successors(and);
-    successors.get(place).copied().unwrap_or(0)
+    tableau_of(ranks).successor_at(and, place)
 }

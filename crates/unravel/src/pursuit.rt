@@ -3,14 +3,14 @@ ghost use Rattle.deletion_rules.specs.Pruned.{RankParts};
 ghost use Rattle.deletion_rules.specs.Unravel.{target};
 ghost use Rattle.unravel.specs.Choice.{plan_of};
 ghost use Rattle.unravel.specs.Pursuit.{AreAllTargets, IsGoodFor, IsPursuit, IsPursuitBy, is_pursued};
-ghost use Rattle.unravel.specs.Targets.{IsTarget, pends};
+ghost use Rattle.deletion_rules.specs.Targets.{IsTarget};
+ghost use Rattle.unravel.specs.Targets.{pends};
 ghost use Rattle.tableau_graph.specs.Graph.{graph_of};
 
 use crate::keeper::kept_or;
-use crate::tableau::tableau_of;
-use crate::target::Target;
+use crate::tableau::{tableau_of, tell_alive};
 use crate::turns::pends;
-use deletion_rules::{Position, Ranks};
+use deletion_rules::{Position, Ranks, Target};
 
 /// How a position's target is pursued: through each successor, along one OR node, or not at all, where it does not pend.
 #[derive(Clone, Copy, Debug)]
@@ -26,7 +26,7 @@ pub(crate) fn pursuit_of(ranks: &Ranks, targets: &[Target], p: Position) -> Purs
     requires good { IsGoodFor ranks.now targets.now p }
     ensures { IsPursuit ranks.now targets.now p result }
 {
-    let _alive = tableau_of(ranks);
+    tell_alive(ranks);
     if p.place >= targets.len() as u64 {
         return Pursuit::Idle;
     }
@@ -53,7 +53,7 @@ pub(crate) fn pends_at_node(ranks: &Ranks, and: u64, target: Target) -> bool
     requires target { IsTarget ranks.now.tableau.closure target }
     ensures { result ≡ pends ((graph_of ranks.now.tableau).row and) target }
 {
-    let _closure = tableau_of(ranks).closure().count();
+    tableau_of(ranks).closure().tell_members();
     pends(&tableau_of(ranks).ands()[and as usize].row, target)
 }
 
@@ -69,7 +69,7 @@ pub(crate) fn is_pursued(pursuit: Pursuit, or: u64) -> bool
 }
 
 /// The member that has its turn at the place, if any has one.
-pub(crate) fn goal_of(targets: &[Target], p: Position) -> u32
+pub(crate) fn target_at(targets: &[Target], p: Position) -> u32
     ensures { (r : RankParts) → result ≡ target (plan_of r targets.now) p }
 {
     match targets.get(p.place as usize) {

@@ -8,11 +8,10 @@ ghost use Rattle.unravel.specs.Pursuit.{AreAllTargets, IsGoodFor, IsPickFor, IsP
 ghost use Rattle.unravel.specs.Targets.{pends_at, places};
 
 use crate::child::best_child;
-use crate::pursuit::{Pursuit, goal_of, is_pursued, pends_at_node};
-use crate::tableau::tableau_of;
-use crate::target::Target;
+use crate::pursuit::{Pursuit, is_pursued, pends_at_node, target_at};
+use crate::tableau::{tableau_of, tell_alive};
 use crate::turns::next_place;
-use deletion_rules::{Position, Ranks};
+use deletion_rules::{Position, Ranks, Target};
 
 /// Where the move through this OR node leads from a position: the child of lowest rank, with the target that stays or comes next.
 pub(crate) fn step(
@@ -29,8 +28,8 @@ pub(crate) fn step(
     requires living { LivesOr (graph_of ranks.now.tableau) (lives_at ranks.now) or }
     ensures { (i h : ℕ) (side : Side) → IsSomeNext ranks.now.tableau.closure (graph_of ranks.now.tableau) p.node i side h → (graph_of ranks.now.tableau).next_or p.node i ≡ or → IsPickFor ranks.now targets.now p i result }
 {
-    let _alive = tableau_of(ranks);
-    let node = best_child(ranks, or, goal_of(targets, p));
+    tell_alive(ranks);
+    let node = best_child(ranks, or, target_at(targets, p));
     let next = place_behind(ranks, targets, node, p.place);
     let pursued = is_pursued(pursuit, or);
     let pending = is_pending(ranks, targets, node, p.place);
@@ -60,7 +59,7 @@ fn place_behind(ranks: &Ranks, targets: &[Target], and: u64, place: u64) -> u64
     requires place { place < places targets.now }
     ensures { IsNextPlace (λ y. pends_at ((graph_of ranks.now.tableau).row and) targets.now y ≡ true) (places targets.now) place result }
 {
-    let _alive = tableau_of(ranks);
+    tell_alive(ranks);
     next_place(&tableau_of(ranks).ands()[and as usize].row, targets, place)
 }
 

@@ -3,15 +3,15 @@ ghost use Rattle.closure_sets.specs.Row.{set_of};
 ghost use Rattle.deletion_rules.specs.Picking.{IsNextPlace};
 ghost use Rattle.unravel.specs.Targets.{IsFirstPending, IsSmall, pends, pends_at, places};
 
-use crate::target::Target;
 use closure_sets::Row;
+use deletion_rules::Target;
 
 /// Whether the row has the target and not its second part.
 pub(crate) fn pends(row: &Row, target: Target) -> bool
     requires { IsSmall target }
     ensures { result ≡ pends (set_of row.now.words) target }
 {
-    row.has(target.member) && !row.has(target.second)
+    row.has(target.member) && !row.has(target.g)
 }
 
 /// The place behind this one in the round whose target pends in the row; where none does, this one. Linear in the targets.

@@ -9,10 +9,9 @@ ghost use Rattle.unravel.specs.Pursuit.{AreAllTargets, IsGoodFor};
 
 use crate::child::best_child;
 use crate::growing::{Growing, grown};
-use crate::pursuit::goal_of;
-use crate::tableau::tableau_of;
-use crate::target::{Target, targets_of};
-use deletion_rules::{Position, Ranks, unravelled_satisfies};
+use crate::pursuit::target_at;
+use crate::tableau::{tableau_of, tell_alive};
+use deletion_rules::{Position, Ranks, Target, targets_of, unravelled_satisfies};
 use pair_structure::{Memory, Move, PairStructure, Role, StructureFault, arrange};
 use std::alloc::Global;
 use tableau_graph::tableau_is_graph;
@@ -32,9 +31,9 @@ fn first_position(ranks: &Ranks, targets: &[Target]) -> Position
     ensures good { IsGoodFor ranks.now targets.now result }
     ensures child { Contains ((graph_of ranks.now.tableau).children 0) result.node }
 {
-    let _alive = tableau_of(ranks);
+    tell_alive(ranks);
     let start = Position { node: 0, place: 0 };
-    let node = best_child(ranks, 0, goal_of(targets, start));
+    let node = best_child(ranks, 0, target_at(targets, start));
     Position { node, place: 0 }
 }
 

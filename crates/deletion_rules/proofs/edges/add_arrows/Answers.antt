@@ -11,7 +11,7 @@ loop-member-init c = record { place = refl; few = omega arith; adds = arrow_begi
 pub push-requires : goal.push-requires
 push-requires c =
     let at = arrow_at c.args.t.now c.args.and c.loop-member.member c.loop-member.place c.successor_at.result c.successor_at.ensures c.loop-member.invariant.place in
-    let lt = arrow_below c.args.t.now c.ands-nodes.ensures.tableau c.args.and c.loop-member.member c.successor_at.result c.requires.and (sym c.is_next.ensures ∙ c.if-is_next.true) at in
+    let lt = arrow_below c.args.t.now c.tell_rules.ensures c.args.and c.loop-member.member c.successor_at.result c.requires.and (sym c.is_next.ensures ∙ c.if-is_next.true) at in
     let long = c.loop-member.invariant.adds.long in
     omega (arith, lt, long)
 

@@ -7,7 +7,7 @@ pub loop-child-init : goal.loop-child-init
 loop-child-init c = record { items = c.children-child-items.ensures; adds = child_begin c.args.t.now c.args.or c.children-child-items.result.now c.args.parents.now c.requires.before }
 
 pub push-requires : goal.push-requires
-push-requires c = child_below c.args.t.now c.ands-nodes.ensures.tableau c.args.or c.loop-child.child-index _ c.children-child-items.result.now c.requires.or c.children-child-items.ensures c.loop-child-test.true c.loop-child.invariant.adds.long
+push-requires c = child_below c.args.t.now c.tell_rules.ensures c.args.or c.loop-child.child-index _ c.children-child-items.result.now c.requires.or c.children-child-items.ensures c.loop-child-test.true c.loop-child.invariant.adds.long
 
 pub loop-child-preserved : goal.loop-child-preserved
 loop-child-preserved c = record {

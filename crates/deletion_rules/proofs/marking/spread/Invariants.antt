@@ -6,9 +6,9 @@ use Rattle.deletion_rules.proofs.marking.spread.Given as goal
 
 abbrev pub invariant-loop-alloc : goal.invariant-loop-alloc
 invariant-loop-alloc l = record {
-  spread : IsSpread l.t l.lives l.goal (l.round + 1) l.front.marks.items l.reached l.front.nodes.items;
-  cursors : AreCursors (length l.t.ands) l.t.successors l.reached true l.front.cursors.items;
-  few : l.round + (open_count l.front.marks.items + length l.front.nodes.items) ≤ length l.t.ands;
+  spread : IsSpread l.m.tableau.now l.m.lives.now l.m.target (l.round + 1) l.front.marks.items l.reached l.front.nodes.items;
+  cursors : AreCursors (length l.m.tableau.now.ands) l.m.tableau.now.successors l.reached true l.front.cursors.items;
+  few : l.round + (open_count l.front.marks.items + length l.front.nodes.items) ≤ length l.m.tableau.now.ands;
 }
 
 abbrev pub decreases-loop-alloc : goal.decreases-loop-alloc

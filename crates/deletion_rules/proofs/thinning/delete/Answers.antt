@@ -5,7 +5,7 @@ use Rattle.deletion_rules.proofs.thinning.delete.Goals as goal
 pub returns-in_ok-push : goal.returns-in_ok-push
 returns-in_ok-push c =
     let t = c.args.t.now in
-    let k = c.ands-nodes.ensures.tableau in
+    let k = c.tell_rules.ensures in
     let th = c.args.thinning.now in
     let n = c.args.arrow.node in
     let small = c.requires.arrow.1.0.2.node in

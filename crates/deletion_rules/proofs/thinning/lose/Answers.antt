@@ -9,7 +9,7 @@ use Rattle.deletion_rules.proofs.thinning.lose.Goals as goal
 
 pub is_through-requires-clause-items : goal.is_through-requires-clause-items
 is_through-requires-clause-items c = λ n there.
-    let lt = child_within c.args.t.now c.ands-nodes.ensures.tableau c.args.or n c.requires.or (subst (λ (l : List ℕ). Contains l n) c.children-children.ensures there) in
+    let lt = child_within c.args.t.now c.tell_rules.ensures c.args.or n c.requires.or (subst (λ (l : List ℕ). Contains l n) c.children-children.ensures there) in
     let long = c.requires.thinning.long_lives in
     let same = ap length c.deref.ensures.value in
     omega (arith, lt, long, same)

@@ -6,6 +6,6 @@ use Rattle.deletion_rules.proofs.visiting.visit_each.Given as goal
 
 abbrev pub invariant-loop-or : goal.invariant-loop-or
 invariant-loop-or l = record {
-  visits : Visits l.t l.lives l.reached l.goal l.round (IsArrowBefore l.arrows l.ors l.or-index) l.initial.front.marks.items l.initial.front.nodes.items l.front.marks.items l.front.nodes.items;
-  cursors : AreCursors (length l.t.ands) l.t.successors l.reached true l.front.cursors.items;
+  visits : Visits l.m.tableau.now l.m.lives.now l.reached l.m.target l.round (IsArrowBefore l.arrows l.ors l.or-index) l.initial.front.marks.items l.initial.front.nodes.items l.front.marks.items l.front.nodes.items;
+  cursors : AreCursors (length l.m.tableau.now.ands) l.m.tableau.now.successors l.reached true l.front.cursors.items;
 }

@@ -7,7 +7,7 @@ use Rattle.tableau_graph.proofs.growing.root_row.Goals as goal
 
 pub add-requires : goal.add-requires
 add-requires c =
-    let few : count c.args.c.now ≤ 512 = c.count-closure.ensures.closure.numbering.few in
+    let few : count c.args.c.now ≤ 512 = c.tell_members.ensures.numbering.few in
     let same = c.roots-root-items.ensures.same in
     let i = c.loop-root.root-index in
     let within : i < length c.args.c.now.roots = subst (λ (l : List ℕ). i < length l) same c.loop-root-test.true in

@@ -8,6 +8,6 @@ returns c =
     let t = c.args.ranks.now.tableau in
     let target = c.requires.target in
     let e : c.after.result ≡ after t.closure c.args.side c.args.target.member = c.after.ensures ∙ ap (λ x. after x c.args.side c.args.target.member) (c.closure-closure.ensures ∙ ap (λ x. x.closure) c.tableau_of.ensures.tableau) in
-    let lt : c.after.result < count t.closure = subst (λ i. i < count t.closure) (sym e) (after_small t c.tableau_of.ensures.alive.tableau c.args.target.member target.first c.args.target.second c.args.target.all false c.args.side target.member target.part) in
+    let lt : c.after.result < count t.closure = subst (λ i. i < count t.closure) (sym e) (after_small t c.tableau_of.ensures.alive.tableau c.args.target.member c.args.target.f c.args.target.g c.args.target.all false c.args.side target.member target.part) in
     let few : count t.closure ≤ 512 = c.tableau_of.ensures.alive.tableau.rules.closure.numbering.few in
     record { same = e; member = lt; small = omega (arith, lt, few) }

@@ -9,6 +9,6 @@ pub returns : goal.returns
 returns c =
     let t : TableauParts = parts_of c.args.c.now c.args.a.now c.args.b.now (record { ands = c.new.result; ors = c.number.new.self; children = c.new-2.result; successors = c.new-3.result }) in
     let root = c.root_node.result in
-    root_follows t c.count-closure.ensures.closure c.locals-role_a.ensures.role c.locals-role_b.ensures.role c.new.ensures (ap lists_of c.new-2.ensures.items) (ap lists_of c.new-3.ensures.items) root
-    (one_numbered c.new-ors.result root c.number.new.self c.in_ok-number.field-0 c.new-ors.ensures c.in_ok-number.ensures)
+    root_follows t c.tell_members.ensures c.tell_role.ensures c.tell_role-2.ensures c.new.ensures (ap lists_of c.new-2.ensures.items) (ap lists_of c.new-3.ensures.items) root
+    (one_numbered c.new-ors.result root c.number.new.self c.in_ok-number.field-0 c.new-ors.ensures c.in_ok-number.ensures.number)
     (record { sided = c.root_node.ensures.side; origin = pair_is root.a root.b c.args.a.now.start c.args.b.now.start c.root_node.ensures.a c.root_node.ensures.b; seed = c.root_node.ensures.seed })

@@ -7,10 +7,10 @@ use Rattle.unravel.proofs.Nodes.{some_within}
 use Rattle.unravel.proofs.growing.Growing.expand_member.Goals as goal
 
 pub side_of-requires-clause-and : goal.side_of-requires-clause-and
-side_of-requires-clause-and c = c.tableau_of-alive.ensures.alive.kept.nodes c.args.turn.position.node (turn_good c.args.ranks.now c.args.targets.now c.args.turn c.args.member c.args.place c.args.self.now.positions c.args.self.now.moves.items c.requires.turn).living
+side_of-requires-clause-and c = c.tell_alive.ensures.kept.nodes c.args.turn.position.node (turn_good c.args.ranks.now c.args.targets.now c.args.turn c.args.member c.args.place c.args.self.now.positions c.args.self.now.moves.items c.requires.turn).living
 
 pub returns-in_default : goal.returns-in_default
-returns-in_default c = turn_skip c.args.ranks.now c.args.targets.now c.args.turn c.args.member c.args.place c.args.self.now.positions c.args.self.now.moves.items c.requires.turn c.in_default.ensures (c.tableau_of-alive.ensures.alive.kept.nodes c.args.turn.position.node (turn_good c.args.ranks.now c.args.targets.now c.args.turn c.args.member c.args.place c.args.self.now.positions c.args.self.now.moves.items c.requires.turn).living)
+returns-in_default c = turn_skip c.args.ranks.now c.args.targets.now c.args.turn c.args.member c.args.place c.args.self.now.positions c.args.self.now.moves.items c.requires.turn c.in_default.ensures (c.tell_alive.ensures.kept.nodes c.args.turn.position.node (turn_good c.args.ranks.now c.args.targets.now c.args.turn c.args.member c.args.place c.args.self.now.positions c.args.self.now.moves.items c.requires.turn).living)
 
 pub step-to-requires-clause-good : goal.step-to-requires-clause-good
 step-to-requires-clause-good c = turn_good c.args.ranks.now c.args.targets.now c.args.turn c.args.member c.args.place c.args.self.now.positions c.args.self.now.moves.items c.requires.turn
@@ -20,7 +20,7 @@ step-to-requires-clause-or c =
     let r = c.args.ranks.now in
     let some = c.in-Some.ensures in
     let e = turn_or r c.args.targets.now c.args.turn c.args.member c.args.place c.args.self.now.positions c.args.self.now.moves.items c.requires.turn c.successor-or.result c.successor-or.ensures in
-    subst (λ o. o < length r.tableau.ors) e (some_within r.tableau c.tableau_of-alive.ensures.alive.tableau c.args.turn.position.node c.args.member some.0 c.in-Some.side some.1)
+    subst (λ o. o < length r.tableau.ors) e (some_within r.tableau c.tell_alive.ensures.tableau c.args.turn.position.node c.args.member some.0 c.in-Some.side some.1)
 
 pub step-to-requires-clause-living : goal.step-to-requires-clause-living
 step-to-requires-clause-living c =
@@ -28,7 +28,7 @@ step-to-requires-clause-living c =
     let some = c.in-Some.ensures in
     let good = turn_good r c.args.targets.now c.args.turn c.args.member c.args.place c.args.self.now.positions c.args.self.now.moves.items c.requires.turn in
     let e = turn_or r c.args.targets.now c.args.turn c.args.member c.args.place c.args.self.now.positions c.args.self.now.moves.items c.requires.turn c.successor-or.result c.successor-or.ensures in
-    subst (λ o. LivesOr (graph_of r.tableau) (lives_at r) o) e (c.tableau_of-alive.ensures.alive.kept.successors c.args.turn.position.node c.args.member some.0 c.in-Some.side good.living some.1)
+    subst (λ o. LivesOr (graph_of r.tableau) (lives_at r) o) e (c.tell_alive.ensures.kept.successors c.args.turn.position.node c.args.member some.0 c.in-Some.side good.living some.1)
 
 pub returns : goal.returns
 returns c =

@@ -9,14 +9,14 @@ use Rattle.ctl_form.specs.Members.{IsBelow}
 use Rattle.ctl_form.specs.declared.part.Part.TheVariants.{Until}
 use Rattle.closure_sets.specs.ClosureParts.{ClosureParts, IsClosureParts, count}
 use Rattle.closure_sets.specs.Label.{part_of}
-use Rattle.unravel.specs.Targets.{AreTargets, HasTarget, IsTarget, IsTargetOf, no_target}
-use Rattle.unravel.specs.declared.target.Target.{Target}
+use Rattle.deletion_rules.specs.Targets.{AreTargets, HasTarget, IsTarget, IsTargetOf, no_target}
+use Rattle.deletion_rules.specs.declared.target.Target.{Target}
 
 is_target : (c : ClosureParts) → IsClosureParts c → (n : ℕ) → n < count c → (t : Target) → IsTargetOf (part_of c n) n (Some t) → IsTarget c t
 is_target c k n lt t h =
-    let p : part_of c t.member ≡ Until t.all false h.1.0 t.second = subst (λ u. part_of c u ≡ Until t.all false h.1.0 t.second) (sym h.0) h.1.1 in
-    let b : IsBelow n (Until t.all false h.1.0 t.second) = subst (λ part. IsBelow n part) h.1.1 (k.numbering.rising n lt) in
-    record { first = h.1.0; part = p; member = subst (λ u. u < count c) (sym h.0) lt; second = omega (arith, b.1, lt) }
+    let p : part_of c t.member ≡ Until t.all false t.f t.g = subst (λ u. part_of c u ≡ Until t.all false t.f t.g) (sym h.0) h.1 in
+    let b : IsBelow n (Until t.all false t.f t.g) = subst (λ part. IsBelow n part) h.1 (k.numbering.rising n lt) in
+    record { part = p; member = subst (λ u. u < count c) (sym h.0) lt; f = omega (arith, b.0, lt); g = omega (arith, b.1, lt) }
 
 kept_target : (ts more : List Target) (u : ℕ) → HasTarget ts u → HasTarget (ts ++ more) u
 kept_target ts more u h = (h.0, omega (arith, h.1, length-append ts more), ap (λ (t : Target). t.member) (get_or_append_left ts more no_target h.0 h.1) ∙ h.2)
@@ -31,9 +31,9 @@ all_one X t h (suc k) d lt = absurd (omega (arith, lt))
 pub targets_more : (c : ClosureParts) → IsClosureParts c → (n : ℕ) → n < count c → (ts : List Target) (o : Option Target) → IsTargetOf (part_of c n) n o → AreTargets c n ts → AreTargets c (n + 1) (ts ++ option_to_list o)
 targets_more c k n lt ts (Some t) is h = record {
   each = All-append (IsTarget c) ts (t ∷ []) h.each (all_one (IsTarget c) t (is_target c k n lt t is));
-  all = λ u f second all small p. elim (dec_lt u n) [ yes l ↦ kept_target ts (t ∷ []) u (h.all u f second all l p) | no g ↦ last_target ts t u (is.0 ∙ omega (arith, small, g)) ];
+  all = λ u f g all small p. elim (dec_lt u n) [ yes l ↦ kept_target ts (t ∷ []) u (h.all u f g all l p) | no o ↦ last_target ts t u (is.0 ∙ omega (arith, small, o)) ];
 }
 targets_more c k n lt ts None is h = record {
   each = All-append (IsTarget c) ts [] h.each (λ j d l. absurd (omega (arith, l)));
-  all = λ u f second all small p. elim (dec_lt u n) [ yes l ↦ kept_target ts [] u (h.all u f second all l p) | no g ↦ (let e : u ≡ n = omega (arith, small, g) in absurd (is all f second (subst (λ v. part_of c v ≡ Until all false f second) e p))) ];
+  all = λ u f g all small p. elim (dec_lt u n) [ yes l ↦ kept_target ts [] u (h.all u f g all l p) | no o ↦ (let e : u ≡ n = omega (arith, small, o) in absurd (is all f g (subst (λ v. part_of c v ≡ Until all false f g) e p))) ];
 }
