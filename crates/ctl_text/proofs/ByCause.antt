@@ -1,12 +1,12 @@
 -- What stands against a line by kinds of lines, as the code judges it, is what stands against it by causes.
-use Rattle.std.proofs.Common.{ℕ, ◌≡◌, ◌<◌, ◌≤◌, ◌⊎◌, inl, inr, Bool, List, Contains, refl, sym, ap, subst, arith}
+use Rattle.std.proofs.Common.{ℕ, ◌≡◌, ◌<◌, inl, inr, Bool, List, Contains, refl, sym, ap, subst, arith}
 use Rattle.pair_structure.specs.declared.limits.TheConstants.{MAX_ARCS, MAX_LOCALS}
 use Rattle.interconnection.specs.declared.limits.TheConstants.{MAX_KINDS, MAX_PROCESSES, MAX_ROLES}
 use Rattle.pair_structure.specs.Role.{RoleParts}
 use Rattle.text_cause.specs.declared.cause.TextCause.{TextCause}
 use Rattle.text_cause.specs.declared.cause.TextCause.TheVariants.{UnknownName, Twice, SelfArc, NoArc, TooMany, ClosureOver, SelfEdge, EdgeTwice, DegreeOver, RoleMismatch}
 use Rattle.ctl_text.specs.Item.{Said, role_line, local_line, start_line, arc_line, kind_line, require_line, end_line, process_line, edge_line}
-use Rattle.ctl_text.specs.Value.{SpecParts, role_names, kind_names, process_names}
+use Rattle.ctl_text.specs.Value.{SpecParts, kind_names, process_names}
 use Rattle.ctl_text.specs.State.{Group, in_locals, in_arcs, in_kind, State}
 use Rattle.text_cause.specs.Cause.{cause_no, IsLowest, IsFree}
 use Rattle.ctl_text.specs.Cause.{UsesUnknown, DeclaresAgain, JoinsItself, LeavesStuck, GoesOver, HasLargeClosure, AreDeclared, IsLoop, JoinsAgain, Crowds, HasOtherRoles, Blocks}

@@ -1,10 +1,7 @@
 -- How a text is cut into lines, and a line into words.
-use Rattle.std.proofs.Common.{ℕ, zero, suc, ◌≡◌, ◌<◌, ◌≤◌, ◌+◌, Bool, true, false, not, List, [], ◌∷◌, ◌==◌, nat_lt, length, get_or, take, drop, refl, arith, position, Some, None, add-one, cond}
+use Rattle.std.proofs.Common.{ℕ, zero, suc, ◌≡◌, ◌<◌, ◌≤◌, ◌+◌, true, false, not, List, [], ◌∷◌, ◌==◌, length, get_or, take, drop, refl, arith, position, Some, None, add-one}
 use Rattle.std.proofs.lemmas.List.Quantifiers.{position-Some}
-use Rattle.std.proofs.lemmas.List.Sums.{fails_before_first}
-use Rattle.std.proofs.lemmas.Bool.Decides.{nat_tests}
 use Rattle.std.proofs.Math.Seq.{drop-length, take-length}
-use Rattle.std.specs.List.{position_or_len}
 use Rattle.formula_text.proofs.Tests.{none_passes, passed, failed}
 use Rattle.formula_text.specs.Token.{is_space}
 use Rattle.ctl_text.specs.Lines.{lines_of, words_of, goes_on}

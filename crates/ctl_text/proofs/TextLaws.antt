@@ -1,18 +1,18 @@
 -- The grammar of specifications is lawful.
-use Rattle.std.proofs.Common.{ℕ, ◌≡◌, ◌<◌, ◌≤◌, ◌⊎◌, inl, inr, List, [], ◌∷◌, refl, sym, ap, ◌∙◌, subst, arith}
+use Rattle.std.proofs.Common.{ℕ, ◌≡◌, ◌≤◌, ◌⊎◌, inl, inr, List, sym, ap, ◌∙◌, subst, arith}
 use Rattle.std.proofs.lemmas.Bool.{cases_order}
 use Rattle.pair_structure.specs.declared.side.LocalArc.{LocalArc}
 use Rattle.interconnection.specs.declared.parts.Edge.{Edge}
 use Rattle.text_cause.specs.declared.cause.TextCause.{TextCause}
 use Rattle.text_cause.specs.declared.cause.TextCause.TheVariants.{NotText, BadHead, Long, BadLine, UnknownName, Twice, SelfArc, NoArc, TooMany, ClosureOver, SelfEdge, EdgeTwice, DegreeOver, RoleMismatch}
-use Rattle.text_cause.specs.Cause.{IsLowest, Row, Or, NumberRow, cause_no}
+use Rattle.text_cause.specs.Cause.{IsLowest, Row, Or, NumberRow}
 use Rattle.text_cause.specs.inside.Laws.{IsLawful}
 use Rattle.text_cause.proofs.Lowest.{From, OneEach, from_row, from_or, from_numbered, lowest_once, one_each_row, one_each_or, one_each_above, one_each_numbered, to_numbered}
 use Rattle.ctl_text.specs.Cause.{Blocks, Crowds, DeclaresAgain, GoesOver, HasLargeClosure, HasOtherRoles, IsFirstCrowded, IsFirstStuck, IsLongLine, IsLoop, IsNoHead, JoinsAgain, JoinsItself, Leaves, LeavesStuck, MaySay, SaysNothing, Stands, Takes, UsesUnknown, WordsStand}
-use Rattle.ctl_text.specs.Item.{Said, head_line, role_line, local_line, start_line, arc_line, kind_line, require_line, end_line, process_line, edge_line, done_line}
+use Rattle.ctl_text.specs.Item.{Said, role_line, local_line, arc_line, kind_line, end_line, process_line, edge_line}
 use Rattle.ctl_text.specs.Lines.{words_of, IsText, ArePassed}
-use Rattle.ctl_text.specs.State.{State, Group, before_head, among_roles, in_locals, in_arcs, among_kinds, in_kind, among_processes, among_edges, after_done, after}
-use Rattle.ctl_text.specs.Text.{EndStands, Gives, specifications}
+use Rattle.ctl_text.specs.State.{State, Group, before_head, in_locals, in_arcs, after_done, after}
+use Rattle.ctl_text.specs.Text.{EndStands, specifications}
 use Rattle.ctl_text.specs.Value.{SpecParts}
 use Rattle.ctl_text.proofs.ItemLaws.{says_once}
 

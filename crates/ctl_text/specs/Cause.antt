@@ -12,7 +12,7 @@ use Rattle.interconnection.specs.Graph.{degree_of}
 use Rattle.formula_text.specs.Long.{IsLong}
 use Rattle.text_cause.specs.Cause.{IsFree}
 use Rattle.text_cause.specs.declared.cause.TextCause.{TextCause}
-use Rattle.text_cause.specs.declared.cause.TextCause.TheVariants.{NotText, BadHead, Long, BadLine, UnknownName, Twice, SelfArc, NoArc, TooMany, ClosureOver, SelfEdge, EdgeTwice, DegreeOver, RoleMismatch, NotAPair, NotRising, Disagree}
+use Rattle.text_cause.specs.declared.cause.TextCause.TheVariants.{NotText, BadHead, Long, BadLine, UnknownName, Twice, SelfArc, NoArc, TooMany, ClosureOver, SelfEdge, EdgeTwice, DegreeOver, RoleMismatch}
 use Rattle.ctl_text.specs.Required.{tokens_in, SpellsOver, AreKnownOver, IsClosureOver}
 use Rattle.ctl_text.specs.Lines.{words_of, IsText, ArePassed}
 use Rattle.ctl_text.specs.Item.{Said, head_line, role_line, local_line, start_line, arc_line, kind_line, require_line, end_line, process_line, edge_line, words_for, Says}

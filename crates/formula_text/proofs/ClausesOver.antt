@@ -1,5 +1,5 @@
 -- A formula in whose spelling each name is known is over the local states of the two sides.
-use Rattle.std.proofs.Common.{ℕ, ◌≡◌, ◌<◌, Bool, true, false, ◌&&◌, Option, Some, None, List, [], ◌∷◌, ◌++◌, length, refl, subst}
+use Rattle.std.proofs.Common.{ℕ, ◌≡◌, ◌<◌, true, Option, Some, None, List, [], ◌∷◌, ◌++◌, length, refl, subst}
 use Rattle.pair_structure.specs.Parts.{Names}
 use Rattle.pair_structure.specs.declared.side.Side.TheVariants.{A, B}
 use Rattle.ctl_form.specs.Form.{Form}

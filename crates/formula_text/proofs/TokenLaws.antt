@@ -1,9 +1,9 @@
 -- How bytes are cut into tokens, from the first byte on.
-use Rattle.std.proofs.Common.{ℕ, zero, suc, ◌≡◌, ◌<◌, ◌≤◌, ◌+◌, ◌-◌, Bool, true, false, not, List, [], ◌∷◌, nat_lt, length, get_or, take, drop, refl, arith, position, Some, None, cond, ap, ◌∙◌, subst, inl, inr, map, ◌++◌, sym, append_assoc}
+use Rattle.std.proofs.Common.{ℕ, zero, suc, ◌≡◌, ◌<◌, ◌≤◌, ◌+◌, ◌-◌, true, false, not, List, [], ◌∷◌, length, get_or, take, drop, refl, arith, position, Some, None, ap, ◌∙◌, subst, inl, inr, map, ◌++◌, sym, append_assoc}
 use Rattle.std.proofs.lemmas.Bool.{cases_lt}
 use Rattle.std.proofs.lemmas.Bool.Decides.{nat_tests}
 use Rattle.std.proofs.lemmas.List.Quantifiers.{position-Some}
-use Rattle.std.specs.List.{flat_map, position_or_len}
+use Rattle.std.specs.List.{flat_map}
 use Rattle.formula_text.proofs.Tests.{none_passes, passed, failed}
 use Rattle.formula_text.specs.Token.{tokens_of, is_space, are_joined}
 

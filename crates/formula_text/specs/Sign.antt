@@ -1,5 +1,5 @@
 -- What a token says in a formula over the names of two roles' local states.
-use Rattle.std.specs.Prelude.{ℕ, Bool, true, false, nat_le, Option, Some, None, List, [], ◌∷◌, ◌==◌, ◌&&◌, codes, length, position, if◌then◌else◌}
+use Rattle.std.specs.Prelude.{ℕ, Bool, true, false, Option, Some, None, List, [], ◌∷◌, ◌==◌, ◌&&◌, codes, position, if◌then◌else◌}
 use Rattle.std.specs.Str.{bytes_eq}
 use Rattle.pair_structure.specs.Name.{is_name}
 pub use Rattle.pair_structure.specs.Parts.{Names}

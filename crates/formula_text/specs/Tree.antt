@@ -1,5 +1,5 @@
 -- The grammar of formulas: what is spelled, by which signs, and where each spelling may stand.
-use Rattle.std.specs.Prelude.{ℕ, ◌≡◌, ◌≤◌, Bool, true, false, map, Option, Some, None, List, [], ◌∷◌, ◌++◌}
+use Rattle.std.specs.Prelude.{ℕ, ◌≡◌, ◌≤◌, Bool, true, false, map, None, List, [], ◌∷◌, ◌++◌}
 use Rattle.pair_structure.specs.Parts.{Names}
 use Rattle.ctl_form.specs.Form.{Form, truth, falsity, at, neg, both, either, implies, next, always, sometime, until}
 use Rattle.std.specs.List.{list_all}

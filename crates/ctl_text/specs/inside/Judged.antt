@@ -11,7 +11,7 @@ use Rattle.ctl_text.specs.Required.{SpellsOver, AreKnownOver, IsUnspelled}
 use Rattle.ctl_text.specs.Item.{Said, require_line, Says}
 use Rattle.ctl_text.specs.State.{State, Group, before_head, MayStand}
 use Rattle.ctl_text.specs.Text.{EndStands}
-use Rattle.text_cause.specs.Cause.{IsLowest, IsFree}
+use Rattle.text_cause.specs.Cause.{IsFree}
 use Rattle.ctl_text.specs.Cause.{WordsStand, MaySay, Leaves}
 
 -- nothing stands against the words, and they leave this state

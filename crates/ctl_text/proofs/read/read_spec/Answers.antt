@@ -1,4 +1,4 @@
-use Rattle.std.proofs.Common.{◌≡◌, ◌∙◌}
+use Rattle.std.proofs.Common.{◌∙◌}
 use Rattle.text_cause.proofs.TextLaws.{one_value, never_both, memory_only, fault_only}
 use Rattle.ctl_text.specs.inside.Made.{value_of}
 use Rattle.ctl_text.specs.State.{first_state}
