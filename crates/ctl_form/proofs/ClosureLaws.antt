@@ -1,5 +1,5 @@
 -- The walk of the roots gives the closure.
-use Rattle.std.proofs.Common.{ℕ, ◌≡◌, ◌⊎◌, ◌<◌, ◌≤◌, inl, inr, Bool, true, false, Some, List, [], ◌∷◌, ◌++◌, arith, refl, sym, ◌∙◌, ap, subst, length}
+use Rattle.std.proofs.Common.{◌≡◌, ◌≤◌, inl, inr, true, false, Some, List, [], ◌∷◌, ◌++◌, arith, refl, sym, ◌∙◌, subst, length}
 use Rattle.std.specs.List.{Contains, IsDistinct}
 use Rattle.std.proofs.lemmas.List.Elements.{Contains-append_cases, Contains-append_right, Contains-push_cases}
 use Rattle.std.proofs.lemmas.Map.Keys.{IsDistinct-from_apart, apart_from_distinct}
@@ -8,7 +8,7 @@ use Rattle.pair_structure.specs.declared.side.Side.TheVariants.{A, B}
 use Rattle.ctl_form.specs.Closure.{opening, brings, AreWithin, IsGrown, IsClosed, IsClosure}
 use Rattle.ctl_form.specs.Form.{Form, truth, falsity, next}
 use Rattle.ctl_form.specs.Members.{form_at}
-use Rattle.ctl_form.specs.Walk.{same_form, has_form, noted, walk, walk_all, members_of}
+use Rattle.ctl_form.specs.Walk.{same_form, noted, walk, walk_all, members_of}
 use Rattle.ctl_form.proofs.WalkLaws.{same_form_decides, same_form_equivalence, within_nil, within_cons, walk_keeps, within_walk, has_walk, grown_walk, walk_within, distinct_noted, length_walk}
 
 -- what holds of the first formula and of each later one

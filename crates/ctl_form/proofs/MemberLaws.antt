@@ -5,8 +5,9 @@ use Rattle.std.proofs.lemmas.List.{get_or_append_left}
 use Rattle.std.proofs.lemmas.List.Elements.{at_from_Contains}
 use Rattle.std.proofs.lemmas.Map.Keys.{IsDistinct-push, IsDistinct-tail, apart_from_distinct}
 use Rattle.pair_structure.specs.declared.side.Side.{Side}
+use Rattle.ctl_form.specs.declared.limits.TheConstants.{MAX_MEMBERS}
 use Rattle.ctl_form.specs.Form.{Form, truth, falsity, at, neg, both, either, implies, next, always, sometime, until}
-use Rattle.ctl_form.specs.Members.{part_at, form_at, literal, form_of_part, forms_from, forms_of, IsBelow}
+use Rattle.ctl_form.specs.Members.{part_at, form_at, form_of_part, forms_from, forms_of, IsBelow}
 use Rattle.ctl_form.specs.MemberTable.{IsNumbering, IsIndex, IsNumbered}
 use Rattle.ctl_form.specs.Walk.{same_form, has_form, noted}
 use Rattle.ctl_form.specs.declared.part.Part.{Part}
@@ -138,7 +139,7 @@ stands_push parts p numbering below =
     record { stands = λ n h. below_more (λ k. form_at forms' k ≡ form_of_part forms' (part_at parts' k)) (length parts) old last n (omega (arith, h, length-append parts (p ∷ []))) }
 
 -- a new part leaves a numbering
-pub numbering_push : (parts : List Part) (p : Part) → IsNumbering parts → IsBelow (length parts) p → IsNew parts p → length parts < 512 → IsNumbering (parts ++ p ∷ [])
+pub numbering_push : (parts : List Part) (p : Part) → IsNumbering parts → IsBelow (length parts) p → IsNew parts p → length parts < MAX_MEMBERS → IsNumbering (parts ++ p ∷ [])
 numbering_push parts p numbering below new room =
     let forms : List Form = forms_of parts in
     let f : Form = form_of_part forms p in
@@ -203,7 +204,7 @@ numbered_added parts parts' p n numbering below new at_end e =
     }
 
 -- there is no room for a new part
-pub over_added : (parts : List Part) (p : Part) → IsNumbering parts → IsBelow (length parts) p → IsNew parts p → 512 ≤ length parts → 512 < length (noted (form_of_part (forms_of parts) p) (forms_of parts))
+pub over_added : (parts : List Part) (p : Part) → IsNumbering parts → IsBelow (length parts) p → IsNew parts p → MAX_MEMBERS ≤ length parts → MAX_MEMBERS < length (noted (form_of_part (forms_of parts) p) (forms_of parts))
 over_added parts p numbering below new full =
     let forms : List Form = forms_of parts in
     let f : Form = form_of_part forms p in

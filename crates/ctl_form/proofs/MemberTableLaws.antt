@@ -1,14 +1,12 @@
 -- What the table of members keeps where it is made, where a part is added, and where adding fails.
-use Rattle.std.proofs.Common.{ℕ, ◌≡◌, ◌<◌, ◌≤◌, ◌-◌, ◌+◌, true, cond, Option, Some, None, List, [], ◌∷◌, ◌++◌, arith, refl, sym, ◌∙◌, ap, subst, length, length-append, take}
+use Rattle.std.proofs.Common.{ℕ, ◌≡◌, ◌<◌, ◌-◌, cond, Option, Some, None, List, [], ◌∷◌, ◌++◌, arith, refl, sym, ◌∙◌, ap, subst, length, length-append, take}
 use Rattle.std.specs.BTreeMap.{BTreeMap, get, is_at}
 use Rattle.std.specs.Map.{lookup}
-use Rattle.std.specs.List.{IsDistinct}
 use Rattle.std.proofs.lemmas.List.{take_all, take-append-le}
 use Rattle.std.proofs.lemmas.Map.Views.{tells_apart}
-use Rattle.ctl_form.specs.Form.{Form}
-use Rattle.ctl_form.specs.Members.{part_at, form_at, form_of_part, forms_of, IsBelow}
+use Rattle.ctl_form.specs.declared.limits.TheConstants.{MAX_MEMBERS}
+use Rattle.ctl_form.specs.Members.{part_at, IsBelow}
 use Rattle.ctl_form.specs.MemberTable.{part_cmp, IsNumbering, IsIndex, IsTable}
-use Rattle.ctl_form.specs.Walk.{same_form}
 use Rattle.ctl_form.specs.declared.part.Part.{Part}
 use Rattle.ctl_form.proofs.ClosureLaws.{distinct_nil}
 use Rattle.ctl_form.proofs.MemberLaws.{IsNew, numbering_push, index_push}
@@ -47,7 +45,7 @@ table_nil parts numbers e none =
     }
 
 -- the table with one more part
-pub table_push : (parts parts' : List Part) (p : Part) (numbers numbers' : BTreeMap Part ℕ) (n : ℕ) → IsTable parts numbers → IsNew parts p → IsBelow (length parts) p → length parts < 512 → n ≡ length parts
+pub table_push : (parts parts' : List Part) (p : Part) (numbers numbers' : BTreeMap Part ℕ) (n : ℕ) → IsTable parts numbers → IsNew parts p → IsBelow (length parts) p → length parts < MAX_MEMBERS → n ≡ length parts
     → ((q : Part) → get part_cmp numbers' q ≡ cond (is_at (part_cmp p) q) (Some n) (get part_cmp numbers q)) → get part_cmp numbers' p ≡ Some n → parts' ≡ parts ++ p ∷ [] → IsTable parts' numbers'
 table_push parts parts' p numbers numbers' n t new below room at_end updates here e =
     let look : Part → Option ℕ = get part_cmp numbers in

@@ -1,16 +1,16 @@
 -- One step of a walk after another: the numbers that earlier steps gave stay, and a fault of a step is a fault of the whole.
-use Rattle.std.proofs.Common.{ℕ, ◌≡◌, ◌<◌, ◌≤◌, Bool, true, false, not, Some, None, List, [], ◌∷◌, arith, refl, sym, ◌∙◌, ap, subst, length, Result, Ok, Err}
+use Rattle.std.proofs.Common.{ℕ, ◌≡◌, ◌<◌, ◌≤◌, Bool, true, false, not, Some, None, List, arith, refl, sym, ◌∙◌, ap, subst, length, Result, Ok, Err}
 use Rattle.std.specs.List.{Contains}
 use Rattle.std.specs.Result.{IsErrAnd}
 use Rattle.pair_structure.specs.declared.side.Side.{Side}
 use Rattle.pair_structure.specs.declared.side.Side.TheVariants.{A, B}
 use Rattle.ctl_form.specs.Closure.{IsGrown}
 use Rattle.ctl_form.specs.Form.{Form, truth, falsity, at, neg, both, either, implies, next, always, sometime, until}
-use Rattle.ctl_form.specs.Members.{part_at, form_at, literal, form_of_part, forms_of, IsBelow}
+use Rattle.ctl_form.specs.Members.{form_at, literal, form_of_part, forms_of, IsBelow}
 use Rattle.ctl_form.specs.MemberTable.{IsNumbered, IsFaultOf, Numbers}
 use Rattle.ctl_form.specs.Normal.{normal}
 use Rattle.ctl_form.specs.Walk.{noted, noted_until, walk}
-use Rattle.ctl_form.specs.inside.Walking.{turned, constant_part, constant, pair_part, pair, nexts, ever, once, lasting, release, Walks}
+use Rattle.ctl_form.specs.inside.Walking.{turned, constant, pair_part, pair, nexts, lasting, Walks}
 use Rattle.ctl_form.specs.declared.normal_fault.NormalFault.{NormalFault}
 use Rattle.ctl_form.specs.declared.normal_fault.NormalFault.TheVariants.{Over, Memory}
 use Rattle.ctl_form.specs.declared.part.Part.{Part}

@@ -1,14 +1,13 @@
 -- The roots mean what the conjuncts mean.
-use Rattle.std.proofs.Common.{ℕ, ◌≡◌, ◌<◌, ◌≤◌, ◌↔◌, true, List, arith, sym, ◌∙◌, ap, subst, length, map, get_or}
+use Rattle.std.proofs.Common.{ℕ, ◌≡◌, ◌<◌, ◌↔◌, true, List, arith, sym, ◌∙◌, ap, subst, length, map, get_or}
 use Rattle.std.proofs.lemmas.List.{get_or-map, length-map}
-use Rattle.pair_structure.specs.Structure.{Structure, GoesOn}
-use Rattle.ctl_form.specs.Closure.{opening, IsClosure, IsGrown}
+use Rattle.ctl_form.specs.Closure.{opening, IsClosure}
 use Rattle.ctl_form.specs.Form.{Form, truth}
 use Rattle.ctl_form.specs.Members.{form_at, forms_of}
 use Rattle.ctl_form.specs.MemberTable.{IsNumbering, IsFaultOf}
 use Rattle.ctl_form.specs.Normal.{normal}
 use Rattle.ctl_form.specs.NormalParts.{NormalParts, formula_of}
-use Rattle.ctl_form.specs.Numbered.{normals, RootsMean, IsNormalOf, IsTooLarge, IsRefusalOf}
+use Rattle.ctl_form.specs.Numbered.{normals, RootsMean, IsNormalOf, IsRefusalOf}
 use Rattle.ctl_form.specs.inside.Roots.{AreRoots}
 use Rattle.ctl_form.specs.Truth.{Holds}
 use Rattle.ctl_form.specs.Walk.{walk_all, members_of}

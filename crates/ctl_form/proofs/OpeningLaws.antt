@@ -1,5 +1,5 @@
 -- The opening members, noted one after another, and faults on the way.
-use Rattle.std.proofs.Common.{ℕ, ◌≡◌, ◌<◌, ◌≤◌, ◌+◌, inl, inr, Bool, false, Some, List, [], ◌∷◌, arith, refl, sym, ◌∙◌, ap, subst, length, length-append, Result, Ok, Err, MatchResult}
+use Rattle.std.proofs.Common.{ℕ, ◌≡◌, ◌≤◌, ◌+◌, inl, inr, false, Some, List, [], ◌∷◌, arith, sym, ◌∙◌, ap, subst, length, length-append, Result, Ok, Err, MatchResult}
 use Rattle.std.specs.Result.{IsErrAnd}
 use Rattle.pair_structure.specs.declared.side.Side.TheVariants.{A, B}
 use Rattle.ctl_form.specs.Closure.{opening}
@@ -8,7 +8,6 @@ use Rattle.ctl_form.specs.Members.{form_at, forms_of}
 use Rattle.ctl_form.specs.MemberTable.{IsNumbered, IsFaultOf}
 use Rattle.ctl_form.specs.Walk.{noted}
 use Rattle.ctl_form.specs.declared.normal_fault.NormalFault.{NormalFault}
-use Rattle.ctl_form.specs.declared.normal_fault.NormalFault.TheVariants.{Over, Memory}
 use Rattle.ctl_form.specs.declared.part.Part.{Part}
 use Rattle.ctl_form.proofs.ClosureLaws.{opening_noted}
 use Rattle.ctl_form.proofs.MemberLaws.{length-forms_of}

@@ -1,9 +1,8 @@
 -- The walk of one more root, and what the roots of all conjuncts are.
-use Rattle.std.proofs.Common.{ℕ, zero, suc, ◌≡◌, ◌<◌, ◌≤◌, Bool, true, List, [], ◌∷◌, ◌++◌, arith, refl, sym, ◌∙◌, ap, subst, length, map, take, drop, get_or, All}
-use Rattle.std.proofs.lemmas.List.{get_or-map, length-map, map-append}
+use Rattle.std.proofs.Common.{ℕ, zero, suc, ◌≡◌, ◌<◌, ◌≤◌, true, List, [], ◌∷◌, ◌++◌, arith, refl, sym, ◌∙◌, ap, subst, length, map, take, drop, get_or, All}
+use Rattle.std.proofs.lemmas.List.{map-append}
 use Rattle.std.proofs.lemmas.List.Elements.{All-head, All-tail, All-nil, All-push, All-weaker}
-use Rattle.ctl_form.specs.Closure.{opening, IsGrown}
-use Rattle.ctl_form.specs.Form.{Form, form_of, truth}
+use Rattle.ctl_form.specs.Form.{Form, form_of}
 use Rattle.ctl_form.specs.Members.{form_at, forms_of}
 use Rattle.ctl_form.specs.MemberTable.{IsNumbered, IsFaultOf}
 use Rattle.ctl_form.specs.Normal.{normal}

@@ -1,5 +1,5 @@
 -- The closure of formulas in normal form: the smallest set that holds them, four formulas that each closure has, and what each member brings.
-use Rattle.std.specs.Prelude.{ℕ, ◌≡◌, ◌<◌, Bool, true, false, Some, List, [], ◌∷◌, length, Contains}
+use Rattle.std.specs.Prelude.{ℕ, ◌≡◌, ◌<◌, false, Some, List, [], ◌∷◌, length, Contains}
 use Rattle.pair_structure.specs.declared.side.Side.TheVariants.{A, B}
 use Rattle.ctl_form.specs.Form.{Form, truth, falsity, at, neg, both, either, implies, next, always, sometime, until}
 use Rattle.ctl_form.specs.Members.{form_at}

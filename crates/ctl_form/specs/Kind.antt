@@ -1,8 +1,9 @@
 -- What a kind of pairs asks of a structure, and a specification of a solution.
-use Rattle.std.specs.Prelude.{ℕ, true, false, Some, List, [], ◌∷◌, ◌++◌, map, filter, All, slice_index_or}
+use Rattle.std.specs.Prelude.{true, false, Some, List, [], ◌∷◌, ◌++◌, map, filter, All}
 use Rattle.pair_structure.specs.declared.side.Side.{Side}
 use Rattle.pair_structure.specs.declared.side.Side.TheVariants.{A, B}
 use Rattle.pair_structure.specs.declared.side.LocalArc.{LocalArc}
+pub use Rattle.pair_structure.specs.Parts.{role_at}
 use Rattle.pair_structure.specs.Role.{RoleParts}
 use Rattle.pair_structure.specs.Structure.{Structure, IsOver}
 use Rattle.ctl_form.specs.declared.pair_spec.PairSpec.{PairSpec}
@@ -24,10 +25,6 @@ whole_forms a b clauses = clauses ++ free_forms A a.arcs ++ free_forms B b.arcs
 pub record Satisfies (a b : RoleParts) (clauses : List Form) (m : Structure) : Type 0 where
   pub over : IsOver a b m
   pub holds : All (λ f. Holds m f 0) (whole_forms a b clauses)
-
--- a role of a list by its number; past the end one with nothing
-abbrev pub role_at : List RoleParts → ℕ → RoleParts
-role_at roles n = slice_index_or roles n (record { name = []; locals = []; start = 0; arcs = [] })
 
 -- the structure satisfies the kind
 abbrev pub SatisfiesKind : List RoleParts → PairSpec → Structure → Type 0

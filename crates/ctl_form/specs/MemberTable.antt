@@ -6,6 +6,7 @@ use Rattle.std.specs.List.{IsDistinct}
 use Rattle.ctl_form.specs.Form.{Form}
 use Rattle.ctl_form.specs.Members.{part_at, form_at, form_of_part, forms_of, IsBelow}
 use Rattle.ctl_form.specs.Walk.{same_form}
+use Rattle.ctl_form.specs.declared.limits.TheConstants.{MAX_MEMBERS}
 use Rattle.ctl_form.specs.declared.normal_fault.NormalFault.{NormalFault}
 use Rattle.ctl_form.specs.declared.normal_fault.NormalFault.TheVariants.{Over, Memory}
 use Rattle.ctl_form.specs.declared.part.Part.{Part}
@@ -15,9 +16,9 @@ use Rattle.ctl_form.specs.contracts.part.PartOrd.TheImpl as part_ord
 abbrev pub part_cmp : Part → Part → Ordering
 part_cmp = (part_ord.ghosts).cmp
 
--- at most 512 members; each is given by members below it, and no formula is given twice
+-- at most MAX_MEMBERS members; each is given by members below it, and no formula is given twice
 pub record IsNumbering (parts : List Part) : Type 0 where
-  pub few : length parts ≤ 512
+  pub few : length parts ≤ MAX_MEMBERS
   pub rising : (n : ℕ) → n < length parts → IsBelow n (part_at parts n)
   pub stands : (n : ℕ) → n < length parts → form_at (forms_of parts) n ≡ form_of_part (forms_of parts) (part_at parts n)
   pub distinct : IsDistinct same_form (forms_of parts)
@@ -40,7 +41,7 @@ pub record IsNumbered (walked : List Form) (form : Form) (parts : List Part) (n 
 
 -- what a fault says of the formulas that were to be walked
 abbrev pub IsFaultOf : List Form → NormalFault → Type 0
-IsFaultOf walked Over = 512 < length walked
+IsFaultOf walked Over = MAX_MEMBERS < length walked
 IsFaultOf walked Memory = Unit {0}
 
 -- at Ok what was walked has its numbers, and this formula the one in the answer

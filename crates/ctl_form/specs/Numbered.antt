@@ -1,5 +1,5 @@
 -- When numbered members are the closure of some conjuncts.
-use Rattle.std.specs.Prelude.{ℕ, ◌≡◌, ◌<◌, ◌↔◌, Bool, true, List, length, map, slice_index}
+use Rattle.std.specs.Prelude.{ℕ, ◌≡◌, ◌<◌, ◌↔◌, true, List, length, map, slice_index}
 use Rattle.pair_structure.specs.Structure.{Structure, GoesOn}
 use Rattle.ctl_form.specs.Closure.{IsClosed, IsClosure}
 use Rattle.ctl_form.specs.Form.{Form}
@@ -9,6 +9,7 @@ use Rattle.ctl_form.specs.Normal.{normal}
 use Rattle.ctl_form.specs.NormalParts.{NormalParts, formula_of}
 use Rattle.ctl_form.specs.Truth.{Holds}
 use Rattle.ctl_form.specs.Walk.{members_of}
+use Rattle.ctl_form.specs.declared.limits.TheConstants.{MAX_MEMBERS}
 use Rattle.ctl_form.specs.declared.normal_fault.NormalFault.{NormalFault}
 use Rattle.ctl_form.specs.declared.normal_fault.NormalFault.TheVariants.{Over, Memory}
 
@@ -27,9 +28,9 @@ pub record IsNormalOf (conjuncts : List Form) (n : NormalParts) : Type 0 where
   pub rooted : map (formula_of n) n.roots ≡ normals conjuncts
   pub mean : RootsMean conjuncts n
 
--- each closed list, and so the closure, has more than 512 formulas
+-- each closed list, and so the closure, has more than MAX_MEMBERS formulas
 abbrev pub IsTooLarge : List Form → Type 0
-IsTooLarge conjuncts = (forms : List Form) → IsClosed (normals conjuncts) forms → 512 < length forms
+IsTooLarge conjuncts = (forms : List Form) → IsClosed (normals conjuncts) forms → MAX_MEMBERS < length forms
 
 abbrev pub IsRefusalOf : List Form → NormalFault → Type 0
 IsRefusalOf conjuncts Over = IsTooLarge conjuncts

@@ -1,7 +1,5 @@
 -- Rows of truth values, one for each state of a structure.
 use Rattle.std.specs.Prelude.{ℕ, ◌≡◌, ◌<◌, ◌↔◌, Bool, true, false, List, length, slice_index_or}
-use Rattle.pair_structure.specs.declared.side.Side.{Side}
-use Rattle.pair_structure.specs.declared.side.Side.TheVariants.{A, B}
 use Rattle.pair_structure.specs.Structure.{Structure}
 use Rattle.ctl_form.specs.Form.{Form}
 use Rattle.ctl_form.specs.Truth.{Holds}
@@ -14,11 +12,6 @@ IsAt row s = slice_index_or row s false ≡ true
 pub record IsRowOf (n : ℕ) (X : ℕ → Type 0) (row : List Bool) : Type 0 where
   pub long : length row ≡ n
   pub exact : (s : ℕ) → s < n → IsAt row s ↔ X s
-
--- the local state of this side in a label
-abbrev pub local_of : ℕ × ℕ → Side → ℕ
-local_of label A = label.0
-local_of label B = label.1
 
 -- the row has the truth of the formula at every state
 abbrev pub IsTruthOf : Structure → Form → List Bool → Type 0

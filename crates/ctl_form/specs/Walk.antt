@@ -1,5 +1,5 @@
 -- The order in which the members of a closure are numbered: formulas are walked one after another.
-use Rattle.std.specs.Prelude.{ℕ, ◌≡◌, Bool, true, false, cond, Some, List, [], ◌∷◌, ◌++◌, nat_eq, Contains}
+use Rattle.std.specs.Prelude.{◌≡◌, Bool, cond, Some, List, [], ◌∷◌, ◌++◌, nat_eq, Contains}
 use Rattle.std.specs.Cmp.Lexicographic.{pointwise}
 use Rattle.std.specs.Set.{is_member}
 use Rattle.pair_structure.specs.declared.side.Side.TheVariants.{A, B}

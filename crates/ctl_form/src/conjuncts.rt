@@ -2,17 +2,17 @@ ghost use Rattle.std.specs.Prelude.{◌≡◌, ◌++◌, OnOk, IfOk, map};
 ghost use Rattle.ctl_form.specs.Form.{form_of};
 ghost use Rattle.ctl_form.specs.Kind.{free_form, free_forms, whole_forms};
 
+use crate::Formula;
 use crate::clauses::copies;
-use crate::{Formula, PairSpec};
 use pair_structure::{LocalArc, Memory, Role, Side};
 use std::alloc::Global;
 
-/// The formulas that a kind asks for: its clauses, then those of the free arcs of side a, then those of side b, in the roles' order.
-/// Linear in the sizes of the clauses and the count of arcs.
-pub fn whole(alloc: Global, spec: &PairSpec, a: &Role, b: &Role) -> Result<Vec<Formula>, Memory>
-    ensures { IfOk result (λ forms. map form_of forms.items ≡ whole_forms a.now b.now spec.now.clauses) }
+/// The formulas that a kind of these clauses asks for: copies of the clauses, then those of the free arcs of side a, then those of side b,
+/// in the roles' order. Linear in the sizes of the clauses and the count of arcs.
+pub fn whole(alloc: Global, clauses: &[Formula], a: &Role, b: &Role) -> Result<Vec<Formula>, Memory>
+    ensures { IfOk result (λ forms. map form_of forms.items ≡ whole_forms a.now b.now (map form_of clauses.now)) }
 {
-    let mut forms = copies(alloc, spec.clauses.as_slice())?;
+    let mut forms = copies(alloc, clauses)?;
     push_free(alloc, &mut forms, Side::A, a.arcs())?;
     push_free(alloc, &mut forms, Side::B, b.arcs())?;
     Ok(forms)

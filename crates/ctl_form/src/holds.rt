@@ -3,7 +3,7 @@ ghost use Rattle.pair_structure.specs.Structure.{GoesOn};
 ghost use Rattle.ctl_form.specs.Form.{Form, form_of, always, sometime, until};
 ghost use Rattle.ctl_form.specs.inside.Known.{AreKnown};
 ghost use Rattle.ctl_form.specs.inside.Predecessors.{ArePredecessors};
-ghost use Rattle.ctl_form.specs.Row.{IsAt, IsRowOf, IsTruthOf, local_of};
+ghost use Rattle.ctl_form.specs.Row.{IsAt, IsRowOf, IsTruthOf};
 ghost use Rattle.ctl_form.specs.Truth.{AlongPaths, HasLocal};
 
 use crate::code::code_of;
@@ -11,7 +11,7 @@ use crate::next_row::next_row;
 use crate::predecessors::Predecessors;
 use crate::until_row::until_row;
 use crate::{BitRow, Formula};
-use pair_structure::{Memory, PairStructure, Side};
+use pair_structure::{Memory, PairStructure, Side, local_of};
 use std::alloc::Global;
 use std::collections::BTreeMap;
 
@@ -212,18 +212,9 @@ fn local_row(alloc: Global, m: &PairStructure, side: Side, local: u8) -> Result<
     let states = m.states();
     let mut row = BitRow::none(alloc, states.len())?;
     for state in 0..states.len() {
-        if local_of(states[state], side) == local {
+        if local_of(side, states[state]) == local {
             row.add(state as u64);
         }
     }
     Ok(row)
-}
-
-fn local_of(label: (u8, u8), side: Side) -> u8
-    ensures { result ≡ local_of label side }
-{
-    match side {
-        Side::A => label.0,
-        Side::B => label.1,
-    }
 }

@@ -9,6 +9,7 @@ mod cursors;
 mod formula;
 mod holds;
 mod laws;
+mod limits;
 mod members;
 mod next_row;
 mod normal;
@@ -30,6 +31,7 @@ pub use laws::{
     some_unless_expands, some_until_expands, sometime_expands, truth_is_decided, until_expands,
     walk_of_known_does_nothing,
 };
+pub use limits::MAX_MEMBERS;
 pub use normal::Normal;
 pub use normal_fault::NormalFault;
 pub use pair_spec::PairSpec;

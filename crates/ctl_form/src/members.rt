@@ -3,13 +3,11 @@ ghost use Rattle.ctl_form.specs.Members.{part_at, forms_of, form_of_part, IsBelo
 ghost use Rattle.ctl_form.specs.MemberTable.{IsNumbering, Numbers};
 ghost use Rattle.ctl_form.specs.Walk.{noted};
 
-use crate::{NormalFault, Part};
+use crate::{MAX_MEMBERS, NormalFault, Part};
 use pair_structure::Memory;
 use std::alloc::Global;
 use std::collections::BTreeMap;
 use std::marker::Model;
-
-const MAX_MEMBERS: usize = 512;
 
 /// Members in the order of their numbers, and their numbers by their parts. Contracts see the parts.
 #[derive(Drop)]
@@ -76,7 +74,7 @@ impl Members {
     fn add(&mut self, part: Part) -> Result<u32, Memory>
         requires new { (n : ℕ) → n < length self.old → part_at self.old n ≡ part → ⊥ }
         requires below { IsBelow (length self.old) part }
-        requires room { length self.old < 512 }
+        requires room { length self.old < MAX_MEMBERS }
         ensures number { IfOk result (λ n. n ≡ length self.old) }
         ensures added { OnOk result (self.new ≡ self.old ++ part ∷ []) }
     {

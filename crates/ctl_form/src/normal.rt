@@ -34,7 +34,7 @@ impl Model for Normal {
 
 impl Normal {
     /// The closure of the conjuncts' normal forms (Emerson and Clarke 1982, with next-times of one side). Over exactly where it has more than
-    /// 512 members. One look-up among the members for each operator of the normal forms, and a second for each new member.
+    /// `MAX_MEMBERS` members. One look-up among the members for each operator of the normal forms, and a second for each new member.
     pub fn of(alloc: Global, conjuncts: &[Formula]) -> Result<Normal, NormalFault>
         ensures { let forms = map form_of conjuncts.now in MatchResult result (IsNormalOf forms) (IsRefusalOf forms) }
     {

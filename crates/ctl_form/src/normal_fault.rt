@@ -8,7 +8,7 @@ use thiserror::Error;
 /// Why formulas have no numbered closure.
 #[derive(Clone, Copy, Debug, PartialEq, Eq, Error)]
 pub enum NormalFault {
-    /// Their closure has more than 512 members.
+    /// Their closure has more than `MAX_MEMBERS` members.
     #[error("the closure has more than 512 members")]
     Over,
     /// Want of memory.

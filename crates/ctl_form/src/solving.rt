@@ -25,7 +25,7 @@ pub fn solves(
     requires { IsOver a.now b.now m.now }
     ensures { IfOk result (λ yes. IsTrue yes ↔ Satisfies a.now b.now spec.now.clauses m.now) }
 {
-    let forms = whole(alloc, spec, a, b)?;
+    let forms = whole(alloc, spec.clauses.as_slice(), a, b)?;
     let predecessors = Predecessors::of(alloc, m)?;
     each_holds(alloc, m, &predecessors, &forms)
 }

@@ -1,5 +1,7 @@
 -- What stands against a line by kinds of lines, as the code judges it, is what stands against it by causes.
 use Rattle.std.proofs.Common.{ℕ, ◌≡◌, ◌<◌, inl, inr, Bool, List, Contains, refl, sym, ap, subst, arith}
+use Rattle.pair_structure.specs.declared.limits.TheConstants.{MAX_ARCS, MAX_LOCALS}
+use Rattle.interconnection.specs.declared.limits.TheConstants.{MAX_KINDS, MAX_PROCESSES, MAX_ROLES}
 use Rattle.pair_structure.specs.Role.{RoleParts}
 use Rattle.text_cause.specs.declared.cause.TextCause.{TextCause}
 use Rattle.text_cause.specs.declared.cause.TextCause.TheVariants.{UnknownName, Twice, SelfArc, NoArc, TooMany, ClosureOver, SelfEdge, EdgeTwice, DegreeOver, RoleMismatch}
@@ -140,9 +142,9 @@ declared v g p q kind cause known lt = (
 
 cause_of_line : (x : Said) (v : SpecParts) (g : Group) (cause : TextCause) → KnownBehind x v g cause → LineBlocks (At v g) x cause → Blocks (At v g) x cause
 cause_of_line (role_line name) v g cause known (inl h) = again_blocks (At v g) (role_line name) cause h.0 h.1
-cause_of_line (role_line name) v g cause known (inr h) = over_blocks (At v g) (role_line name) cause 16 h.0 (refl, h.1)
+cause_of_line (role_line name) v g cause known (inr h) = over_blocks (At v g) (role_line name) cause MAX_ROLES h.0 (refl, h.1)
 cause_of_line (local_line n) v (in_locals name names) cause known (inl h) = again_blocks (At v (in_locals name names)) (local_line n) cause h.0 h.1
-cause_of_line (local_line n) v (in_locals name names) cause known (inr h) = over_blocks (At v (in_locals name names)) (local_line n) cause 32 h.0 (refl, h.1)
+cause_of_line (local_line n) v (in_locals name names) cause known (inr h) = over_blocks (At v (in_locals name names)) (local_line n) cause MAX_LOCALS h.0 (refl, h.1)
 cause_of_line (start_line n) v (in_locals name names) cause known h = unknown_blocks (At v (in_locals name names)) (start_line n) cause h.0 h.1
 cause_of_line (arc_line p q f) v (in_arcs r) cause known (inl h) = unknown_blocks (At v (in_arcs r)) (arc_line p q f) cause h.0 (inl h.1)
 cause_of_line (arc_line p q f) v (in_arcs r) cause known (inr (inl h)) = unknown_blocks (At v (in_arcs r)) (arc_line p q f) cause h.0 (inr h.1)
@@ -150,17 +152,17 @@ cause_of_line (arc_line p q f) v (in_arcs r) cause known (inr (inr (inl h))) =
     let lt = behind cause Twice h.0 (omega arith) in again_blocks (At v (in_arcs r)) (arc_line p q f) cause h.0 (from_there v r p q f cause known lt, to_there v r p q f cause known lt, h.1)
 cause_of_line (arc_line p q f) v (in_arcs r) cause known (inr (inr (inr (inl h)))) =
     let lt = behind cause SelfArc h.0 (omega arith) in self_blocks (At v (in_arcs r)) (arc_line p q f) cause h.0 (from_there v r p q f cause known lt, h.1)
-cause_of_line (arc_line p q f) v (in_arcs r) cause known (inr (inr (inr (inr h)))) = over_blocks (At v (in_arcs r)) (arc_line p q f) cause 128 h.0 (refl, h.1)
+cause_of_line (arc_line p q f) v (in_arcs r) cause known (inr (inr (inr (inr h)))) = over_blocks (At v (in_arcs r)) (arc_line p q f) cause MAX_ARCS h.0 (refl, h.1)
 cause_of_line (kind_line name a b) v g cause known (inl h) = unknown_blocks (At v g) (kind_line name a b) cause h.0 (inl h.1)
 cause_of_line (kind_line name a b) v g cause known (inr (inl h)) = unknown_blocks (At v g) (kind_line name a b) cause h.0 (inr h.1)
 cause_of_line (kind_line name a b) v g cause known (inr (inr (inl h))) = again_blocks (At v g) (kind_line name a b) cause h.0 h.1
-cause_of_line (kind_line name a b) v g cause known (inr (inr (inr h))) = over_blocks (At v g) (kind_line name a b) cause 16 h.0 (refl, h.1)
+cause_of_line (kind_line name a b) v g cause known (inr (inr (inr h))) = over_blocks (At v g) (kind_line name a b) cause MAX_KINDS h.0 (refl, h.1)
 cause_of_line (require_line words form) v (in_kind k) cause known h = unknown_blocks (At v (in_kind k)) (require_line words form) cause h.0 h.1
 cause_of_line end_line v (in_arcs r) cause known h = stuck_blocks (At v (in_arcs r)) end_line cause h.0 h.1 h.2
 cause_of_line end_line v (in_kind k) cause known h = closure_blocks (At v (in_kind k)) end_line cause h.0 h.1
 cause_of_line (process_line name r) v g cause known (inl h) = unknown_blocks (At v g) (process_line name r) cause h.0 h.1
 cause_of_line (process_line name r) v g cause known (inr (inl h)) = again_blocks (At v g) (process_line name r) cause h.0 h.1
-cause_of_line (process_line name r) v g cause known (inr (inr h)) = over_blocks (At v g) (process_line name r) cause 1024 h.0 (refl, h.1)
+cause_of_line (process_line name r) v g cause known (inr (inr h)) = over_blocks (At v g) (process_line name r) cause MAX_PROCESSES h.0 (refl, h.1)
 cause_of_line (edge_line p q kind) v g cause known (inl h) = unknown_blocks (At v g) (edge_line p q kind) cause h.0 (inl h.1)
 cause_of_line (edge_line p q kind) v g cause known (inr (inl h)) = unknown_blocks (At v g) (edge_line p q kind) cause h.0 (inr (inl h.1))
 cause_of_line (edge_line p q kind) v g cause known (inr (inr (inl h))) = unknown_blocks (At v g) (edge_line p q kind) cause h.0 (inr (inr h.1))

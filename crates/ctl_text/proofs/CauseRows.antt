@@ -1,5 +1,7 @@
 -- The lowest cause against a line, rule by rule.
 use Rattle.std.proofs.Common.{ℕ, ◌≡◌, ◌≤◌, List, length, Contains, refl, ap, arith}
+use Rattle.pair_structure.specs.declared.limits.TheConstants.{MAX_ARCS}
+use Rattle.interconnection.specs.declared.limits.TheConstants.{MAX_KINDS, MAX_PROCESSES}
 use Rattle.pair_structure.specs.declared.side.LocalArc.{LocalArc}
 use Rattle.pair_structure.specs.Role.{RoleParts, HasArc}
 use Rattle.ctl_form.specs.declared.pair_spec.PairSpec.{PairSpec}
@@ -51,15 +53,15 @@ pub use_none : (names : List (List ℕ)) (name : List ℕ) (rest : TextCause →
 use_none names name rest there free = or_free (UseStands names name) rest (use_free names name there) free
 
 -- a process: its role, then its name
-pub process_from : (processes : List Process) (name : List ℕ) → From 5 (NameStands (process_names processes) 1024 name)
-process_from processes name = name_from (process_names processes) 1024 name
+pub process_from : (processes : List Process) (name : List ℕ) → From 5 (NameStands (process_names processes) MAX_PROCESSES name)
+process_from processes name = name_from (process_names processes) MAX_PROCESSES name
 
 -- a kind: its roles, then its name
-pub kind_from : (roles : List RoleParts) (kinds : List PairSpec) (name b : List ℕ) → From 5 (Or (UseStands (role_names roles) b) (NameStands (kind_names kinds) 16 name))
-kind_from roles kinds name b = from_or 5 (UseStands (role_names roles) b) (NameStands (kind_names kinds) 16 name) (use_from (role_names roles) b) (name_from (kind_names kinds) 16 name)
+pub kind_from : (roles : List RoleParts) (kinds : List PairSpec) (name b : List ℕ) → From 5 (Or (UseStands (role_names roles) b) (NameStands (kind_names kinds) MAX_KINDS name))
+kind_from roles kinds name b = from_or 5 (UseStands (role_names roles) b) (NameStands (kind_names kinds) MAX_KINDS name) (use_from (role_names roles) b) (name_from (kind_names kinds) MAX_KINDS name)
 
-pub kind_name_from : (kinds : List PairSpec) (name : List ℕ) → From 5 (NameStands (kind_names kinds) 16 name)
-kind_name_from kinds name = name_from (kind_names kinds) 16 name
+pub kind_name_from : (kinds : List PairSpec) (name : List ℕ) → From 5 (NameStands (kind_names kinds) MAX_KINDS name)
+kind_name_from kinds name = name_from (kind_names kinds) MAX_KINDS name
 
 -- an arc: its ends, whether it stands above, whether it joins itself, and how many there are
 abbrev ArcTwice : List (List ℕ) → List LocalArc → List ℕ → List ℕ → TextCause → Type 0
@@ -69,13 +71,13 @@ abbrev ArcSelf : List ℕ → List ℕ → TextCause → Type 0
 ArcSelf p q = Row SelfArc (p ≡ q)
 
 abbrev ArcMany : List LocalArc → TextCause → Type 0
-ArcMany made = Row (TooMany 128) (128 ≤ length made)
+ArcMany made = Row (TooMany MAX_ARCS) (MAX_ARCS ≤ length made)
 
 abbrev ArcRows : List (List ℕ) → List LocalArc → List ℕ → List ℕ → TextCause → Type 0
 ArcRows names made p q = Or (ArcTwice names made p q) (Or (ArcSelf p q) (ArcMany made))
 
 arc_tail_from : (n : ℕ) (made : List LocalArc) (p q : List ℕ) → n ≤ 7 → From n (Or (ArcSelf p q) (ArcMany made))
-arc_tail_from n made p q le = from_or n (ArcSelf p q) (ArcMany made) (from_row n SelfArc (p ≡ q) le) (from_row n (TooMany 128) (128 ≤ length made) (omega arith))
+arc_tail_from n made p q le = from_or n (ArcSelf p q) (ArcMany made) (from_row n SelfArc (p ≡ q) le) (from_row n (TooMany MAX_ARCS) (MAX_ARCS ≤ length made) (omega arith))
 
 arc_rows_from : (names : List (List ℕ)) (made : List LocalArc) (p q : List ℕ) → From 5 (ArcRows names made p q)
 arc_rows_from names made p q = from_or 5 (ArcTwice names made p q) (Or (ArcSelf p q) (ArcMany made)) (from_row 5 Twice (HasArc made (number_in names p) (number_in names q)) (omega arith)) (arc_tail_from 5 made p q (omega arith))
@@ -96,17 +98,17 @@ arc_twice names made p q there here has = arc_known names made p q Twice there h
 pub arc_self : (names : List (List ℕ)) (made : List LocalArc) (p q : List ℕ) → Contains names p → Contains names q → (HasArc made (number_in names p) (number_in names q) → ⊥) → p ≡ q → IsLowest (ArcStands names made p q) SelfArc
 arc_self names made p q there here fresh same = arc_known names made p q SelfArc there here
     (or_right (ArcTwice names made p q) (Or (ArcSelf p q) (ArcMany made)) SelfArc (row_free Twice (HasArc made (number_in names p) (number_in names q)) fresh)
-    (or_left (ArcSelf p q) (ArcMany made) SelfArc (row_lowest SelfArc (p ≡ q) same) (from_row 7 (TooMany 128) (128 ≤ length made) (omega arith))))
+    (or_left (ArcSelf p q) (ArcMany made) SelfArc (row_lowest SelfArc (p ≡ q) same) (from_row 7 (TooMany MAX_ARCS) (MAX_ARCS ≤ length made) (omega arith))))
 
-pub arc_many : (names : List (List ℕ)) (made : List LocalArc) (p q : List ℕ) → Contains names p → Contains names q → (HasArc made (number_in names p) (number_in names q) → ⊥) → (p ≡ q → ⊥) → 128 ≤ length made → IsLowest (ArcStands names made p q) (TooMany 128)
-arc_many names made p q there here fresh differ over = arc_known names made p q (TooMany 128) there here
-    (or_right (ArcTwice names made p q) (Or (ArcSelf p q) (ArcMany made)) (TooMany 128) (row_free Twice (HasArc made (number_in names p) (number_in names q)) fresh)
-    (or_right (ArcSelf p q) (ArcMany made) (TooMany 128) (row_free SelfArc (p ≡ q) differ) (row_lowest (TooMany 128) (128 ≤ length made) over)))
+pub arc_many : (names : List (List ℕ)) (made : List LocalArc) (p q : List ℕ) → Contains names p → Contains names q → (HasArc made (number_in names p) (number_in names q) → ⊥) → (p ≡ q → ⊥) → MAX_ARCS ≤ length made → IsLowest (ArcStands names made p q) (TooMany MAX_ARCS)
+arc_many names made p q there here fresh differ over = arc_known names made p q (TooMany MAX_ARCS) there here
+    (or_right (ArcTwice names made p q) (Or (ArcSelf p q) (ArcMany made)) (TooMany MAX_ARCS) (row_free Twice (HasArc made (number_in names p) (number_in names q)) fresh)
+    (or_right (ArcSelf p q) (ArcMany made) (TooMany MAX_ARCS) (row_free SelfArc (p ≡ q) differ) (row_lowest (TooMany MAX_ARCS) (MAX_ARCS ≤ length made) over)))
 
-pub arc_free : (names : List (List ℕ)) (made : List LocalArc) (p q : List ℕ) → Contains names p → Contains names q → (HasArc made (number_in names p) (number_in names q) → ⊥) → (p ≡ q → ⊥) → (128 ≤ length made → ⊥) → IsFree (ArcStands names made p q)
+pub arc_free : (names : List (List ℕ)) (made : List LocalArc) (p q : List ℕ) → Contains names p → Contains names q → (HasArc made (number_in names p) (number_in names q) → ⊥) → (p ≡ q → ⊥) → (MAX_ARCS ≤ length made → ⊥) → IsFree (ArcStands names made p q)
 arc_free names made p q there here fresh differ few = use_none names p (Or (UseStands names q) (ArcRows names made p q)) there (use_none names q (ArcRows names made p q) here
     (or_free (ArcTwice names made p q) (Or (ArcSelf p q) (ArcMany made)) (row_free Twice (HasArc made (number_in names p) (number_in names q)) fresh)
-    (or_free (ArcSelf p q) (ArcMany made) (row_free SelfArc (p ≡ q) differ) (row_free (TooMany 128) (128 ≤ length made) few))))
+    (or_free (ArcSelf p q) (ArcMany made) (row_free SelfArc (p ≡ q) differ) (row_free (TooMany MAX_ARCS) (MAX_ARCS ≤ length made) few))))
 
 -- an edge, by the numbers: itself, twice, crowded, of other roles
 abbrev JoinSelf : ℕ → ℕ → TextCause → Type 0

@@ -1,10 +1,9 @@
 -- A clause of an open kind, from what its words spell.
 use Rattle.std.proofs.Common.{ℕ, ◌≡◌, ◌<◌, List, ◌∷◌, inl, inr, codes, refl, ap, subst, arith}
+use Rattle.pair_structure.specs.Parts.{Names, role_at}
 use Rattle.ctl_form.specs.declared.pair_spec.PairSpec.{PairSpec}
 use Rattle.ctl_form.specs.Form.{Form}
-use Rattle.ctl_form.specs.Kind.{role_at}
 use Rattle.ctl_text.specs.Required.{tokens_in, AreKnownOver, SpellsOver, IsUnspelled}
-use Rattle.formula_text.specs.Sign.{Names}
 use Rattle.text_cause.specs.declared.cause.TextCause.{TextCause}
 use Rattle.text_cause.specs.declared.cause.TextCause.TheVariants.{UnknownName}
 use Rattle.formula_text.specs.declared.formula_fault.FormulaFault.TheVariants.{Unknown}

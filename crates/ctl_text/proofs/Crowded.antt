@@ -1,6 +1,7 @@
--- Which of two processes is the first with 32 edges.
+-- Which of two processes is the first with MAX_NEIGHBOURS edges.
 use Rattle.std.proofs.Common.{ℕ, ◌≡◌, ◌<◌, ◌≤◌, ◌⊎◌, inl, inr, List, refl, arith}
 use Rattle.std.proofs.lemmas.Bool.{cases_lt}
+use Rattle.interconnection.specs.declared.limits.TheConstants.{MAX_NEIGHBOURS}
 use Rattle.interconnection.specs.declared.parts.Edge.{Edge}
 use Rattle.interconnection.specs.Graph.{degree_of}
 use Rattle.ctl_text.specs.Cause.{IsCrowded, IsFirstCrowded}
@@ -15,24 +16,24 @@ swapped edges p q k h = record { one_of = swapped_one p q k h.one_of; degree = h
 pub swapped_first : (edges : List Edge) (p q k : ℕ) → IsFirstCrowded edges q p k → IsFirstCrowded edges p q k
 swapped_first edges p q k h = record { crowded = swapped edges p q k h.crowded; first = λ other crowded. h.first other (swapped edges q p other crowded) }
 
-only_high : (edges : List Edge) (low high other : ℕ) → (32 ≤ degree_of edges low → ⊥) → (other ≡ low) ⊎ (other ≡ high) → 32 ≤ degree_of edges other → high ≤ other
+only_high : (edges : List Edge) (low high other : ℕ) → (MAX_NEIGHBOURS ≤ degree_of edges low → ⊥) → (other ≡ low) ⊎ (other ≡ high) → MAX_NEIGHBOURS ≤ degree_of edges other → high ≤ other
 only_high edges low high other none (inl e) full = absurd (none (rw e at full))
 only_high edges low high other none (inr e) full = omega arith
 
-pub high_crowded : (edges : List Edge) (low high : ℕ) → (32 ≤ degree_of edges low → ⊥) → 32 ≤ degree_of edges high → IsFirstCrowded edges low high high
+pub high_crowded : (edges : List Edge) (low high : ℕ) → (MAX_NEIGHBOURS ≤ degree_of edges low → ⊥) → MAX_NEIGHBOURS ≤ degree_of edges high → IsFirstCrowded edges low high high
 high_crowded edges low high none full = record { crowded = record { one_of = inr refl; degree = full }; first = λ other h. only_high edges low high other none h.one_of h.degree }
 
 low_first : (low high other : ℕ) → low ≤ high → (other ≡ low) ⊎ (other ≡ high) → low ≤ other
 low_first low high other le (inl e) = omega arith
 low_first low high other le (inr e) = omega arith
 
-only_full : (edges : List Edge) (low high k : ℕ) → degree_of edges low < 32 → (k ≡ low) ⊎ (k ≡ high) → 32 ≤ degree_of edges k → 32 ≤ degree_of edges high
+only_full : (edges : List Edge) (low high k : ℕ) → degree_of edges low < MAX_NEIGHBOURS → (k ≡ low) ⊎ (k ≡ high) → MAX_NEIGHBOURS ≤ degree_of edges k → MAX_NEIGHBOURS ≤ degree_of edges high
 only_full edges low high k few (inl e) full = absurd (let at = rw e at full in omega (arith, at, few))
 only_full edges low high k few (inr e) full = rw e at full
 
 -- where none of two is the first that is crowded, none is crowded
 ordered : (edges : List Edge) (low high : ℕ) → low ≤ high → ((k : ℕ) → IsFirstCrowded edges low high k → ⊥) → (k : ℕ) → IsCrowded edges low high k → ⊥
-ordered edges low high le none k crowded = elim (cases_lt (degree_of edges low) 32) [
+ordered edges low high le none k crowded = elim (cases_lt (degree_of edges low) MAX_NEIGHBOURS) [
   | inl few ↦ none high (high_crowded edges low high (λ full. omega (arith, full, few)) (only_full edges low high k few crowded.one_of crowded.degree))
   | inr full ↦ none low (record { crowded = record { one_of = inl refl; degree = full }; first = λ other h. low_first low high other le h.one_of })
 ]

@@ -5,9 +5,10 @@ use Rattle.std.proofs.lemmas.List.{get_or_default, get_or_append_left, length-ma
 use Rattle.std.proofs.lemmas.List.Sums.{sum_by-append, sum_by-cons}
 use Rattle.std.proofs.Math.Seq.{get_or-append_seam}
 use Rattle.std.specs.List.{flat_map}
+use Rattle.interconnection.specs.declared.limits.TheConstants.{MAX_KINDS, MAX_NEIGHBOURS, MAX_PROCESSES}
 use Rattle.pair_structure.specs.Role.{RoleParts}
 use Rattle.ctl_form.specs.declared.pair_spec.PairSpec.{PairSpec}
-use Rattle.ctl_form.specs.Kind.{role_at}
+use Rattle.pair_structure.specs.Parts.{role_at}
 use Rattle.interconnection.specs.declared.parts.Process.{Process}
 use Rattle.interconnection.specs.declared.parts.Edge.{Edge}
 use Rattle.interconnection.specs.Graph.{joins, degree_of, JoinSame}
@@ -46,14 +47,14 @@ edge_of v h k d lt =
       of_kind = record { role_a = (h.matching k d lt).0 ∙ ap (λ (ends : ℕ × ℕ). ends.0) at; role_b = (h.matching k d lt).1 ∙ ap (λ (ends : ℕ × ℕ). ends.1) at };
     }
 
-process_free : (rs : List RoleParts) (ps : List Process) (name r : List ℕ) → Contains (role_names rs) r → (Contains (process_names ps) name → ⊥) → length (process_names ps) < 1024 → (cause : TextCause) → ProcessStands rs ps name r cause → ⊥
+process_free : (rs : List RoleParts) (ps : List Process) (name r : List ℕ) → Contains (role_names rs) r → (Contains (process_names ps) name → ⊥) → length (process_names ps) < MAX_PROCESSES → (cause : TextCause) → ProcessStands rs ps name r cause → ⊥
 process_free rs ps name r there fresh few cause (inl h) = use_free (role_names rs) r there cause h
-process_free rs ps name r there fresh few cause (inr h) = name_free (process_names ps) 1024 name fresh few cause h
+process_free rs ps name r there fresh few cause (inr h) = name_free (process_names ps) MAX_PROCESSES name fresh few cause h
 
 process_again : (rs : List RoleParts) (p : Process) (r : ℕ) → r ≡ p.role → ◌≡◌ {A = Process} (record { name = p.name; role = r }) p
 process_again rs p r same = rw same refl
 
-processes_go : (g : Group) (rs : List RoleParts) (ks : List PairSpec) (front back : List Process) (tail : List (List ℕ)) (t : State) → LetsProcesses g → All IsNamedRole rs → Differ (role_names rs) → All (IsNamedProcess (length rs)) back → Differ (process_names (front ++ back)) → length (front ++ back) ≤ 1024
+processes_go : (g : Group) (rs : List RoleParts) (ks : List PairSpec) (front back : List Process) (tail : List (List ℕ)) (t : State) → LetsProcesses g → All IsNamedRole rs → Differ (role_names rs) → All (IsNamedProcess (length rs)) back → Differ (process_names (front ++ back)) → length (front ++ back) ≤ MAX_PROCESSES
     → ((h : Group) → LetsEdges h → Goes (At rs ks (front ++ back) [] h) tail t) → Goes (At rs ks front [] g) (map (process_text rs) back ++ tail) t
 processes_go g rs ks front [] tail t lets named differ each distinct few then = subst (λ (whole : List Process). Goes (At rs ks whole [] g) tail t) (append-nil front) (then g lets.1)
 processes_go g rs ks front (p ∷ back) tail t lets named differ each distinct few then =
@@ -62,7 +63,7 @@ processes_go g rs ks front (p ∷ back) tail t lets named differ each distinct f
     let there = role_there rs p.role here.role differ in
     let role = named p.role (record { name = []; locals = []; start = 0; arcs = [] }) here.role in
     let fresh = distinct_new (process_names front) p.name (process_names back) (subst Differ (map-append (λ (p : Process). p.name) front (p ∷ back)) distinct) in
-    let more = processes_go among_processes rs ks (front ++ p ∷ []) back tail t (λ name r. tt, (λ p q kind. tt, tt)) named differ (λ i d lt. each (suc i) d (omega arith)) (subst (λ (whole : List Process). Differ (process_names whole)) (sym same) distinct) (subst (λ (whole : List Process). length whole ≤ 1024) (sym same) few)
+    let more = processes_go among_processes rs ks (front ++ p ∷ []) back tail t (λ name r. tt, (λ p q kind. tt, tt)) named differ (λ i d lt. each (suc i) d (omega arith)) (subst (λ (whole : List Process). Differ (process_names whole)) (sym same) distinct) (subst (λ (whole : List Process). length whole ≤ MAX_PROCESSES) (sym same) few)
     (λ h lets_h. subst (λ (whole : List Process). Goes (At rs ks whole [] h) tail t) (sym same) (then h lets_h)) in
     item_goes (At rs ks front [] g) t (process_item rs p) (map (process_text rs) back ++ tail) tt (lets.0 p.name (role_at rs p.role).name) (here.name, role.name)
     (record { free = process_free rs front p.name (role_at rs p.role).name there.0 fresh (omega (arith, length-append front (p ∷ back), length-map front (λ (p : Process). p.name))) })
@@ -92,7 +93,7 @@ apart front e back differ (i, x, lt, is, ends) =
     let last = get_or-append_seam front e back e in
     differ i (length front) e lt (omega (arith, length-append front (e ∷ back))) (subst (λ (z : Edge). JoinSame z (get_or (front ++ e ∷ back) (length front) e)) (sym first) (subst (λ (z : Edge). JoinSame x z) (sym last) ends))
 
-join_free : (ps : List Process) (ks : List PairSpec) (front : List Edge) (e : Edge) (back : List Edge) → IsEdgeOf ps ks e → AllPairs (λ (x y : Edge). JoinSame x y → ⊥) (front ++ e ∷ back) → ((k : ℕ) → degree_of (front ++ e ∷ back) k ≤ 32)
+join_free : (ps : List Process) (ks : List PairSpec) (front : List Edge) (e : Edge) (back : List Edge) → IsEdgeOf ps ks e → AllPairs (λ (x y : Edge). JoinSame x y → ⊥) (front ++ e ∷ back) → ((k : ℕ) → degree_of (front ++ e ∷ back) k ≤ MAX_NEIGHBOURS)
     → (cause : TextCause) → JoinStands ps ks front e.a e.b e.kind cause → ⊥
 join_free ps ks front e back is differ few cause (inl h) = is.differ h.1
 join_free ps ks front e back is differ few cause (inr (inl h)) = apart front e back differ h.1
@@ -112,7 +113,7 @@ edge_again : (e : Edge) (a b kind : ℕ) → a ≡ e.a → b ≡ e.b → kind �
 edge_again e a b kind ha hb hk = rw (ha, hb, hk) refl
 
 edges_go : (g : Group) (rs : List RoleParts) (ks : List PairSpec) (ps : List Process) (front back : List Edge) → LetsEdges g → All (IsNamedKind rs) ks → All (IsNamedProcess (length rs)) ps → Differ (kind_names ks) → Differ (process_names ps) → All (IsEdgeOf ps ks) back
-    → AllPairs (λ (x y : Edge). JoinSame x y → ⊥) (front ++ back) → ((k : ℕ) → degree_of (front ++ back) k ≤ 32) → Goes (At rs ks ps front g) (map (edge_text ps ks) back ++ (line_for done_line ∷ [])) (At rs ks ps (front ++ back) after_done)
+    → AllPairs (λ (x y : Edge). JoinSame x y → ⊥) (front ++ back) → ((k : ℕ) → degree_of (front ++ back) k ≤ MAX_NEIGHBOURS) → Goes (At rs ks ps front g) (map (edge_text ps ks) back ++ (line_for done_line ∷ [])) (At rs ks ps (front ++ back) after_done)
 edges_go g rs ks ps front [] lets kinds processes kinds_differ differ each apart_all few =
     item_goes (At rs ks ps front g) (At rs ks ps (front ++ []) after_done) done_line [] tt lets.1 tt (record { free = λ cause h. h }) (ap (λ (es : List Edge). At rs ks ps es after_done) (append-nil front))
 edges_go g rs ks ps front (e ∷ back) lets kinds processes kinds_differ differ each apart_all few =
@@ -125,7 +126,7 @@ edges_go g rs ks ps front (e ∷ back) lets kinds processes kinds_differ differ 
     let q = name_there (λ (x : Process). x.name) ps d e.b is.b differ in
     let k = name_there (λ (x : PairSpec). x.name) ks c e.kind is.kind kinds_differ in
     let more = subst (λ (es : List Edge). Goes (At rs ks ps (front ++ e ∷ []) among_edges) tail (At rs ks ps es after_done)) same
-    (edges_go among_edges rs ks ps (front ++ e ∷ []) back (λ p q kind. tt, tt) kinds processes kinds_differ differ (λ i d lt. each (suc i) d (omega arith)) (subst (AllPairs (λ (x y : Edge). JoinSame x y → ⊥)) (sym same) apart_all) (subst (λ (es : List Edge). (k : ℕ) → degree_of es k ≤ 32) (sym same) few)) in
+    (edges_go among_edges rs ks ps (front ++ e ∷ []) back (λ p q kind. tt, tt) kinds processes kinds_differ differ (λ i d lt. each (suc i) d (omega arith)) (subst (AllPairs (λ (x y : Edge). JoinSame x y → ⊥)) (sym same) apart_all) (subst (λ (es : List Edge). (k : ℕ) → degree_of es k ≤ MAX_NEIGHBOURS) (sym same) few)) in
     item_goes (At rs ks ps front g) (At rs ks ps (front ++ e ∷ back) after_done) (edge_item ps ks e) tail tt (lets.0 (process_at ps e.a).name (process_at ps e.b).name (kind_at ks e.kind).name)
     ((processes e.a d is.a).name, (processes e.b d is.b).name, (kinds e.kind c is.kind).name)
     (record { free = edge_free ps ks front e (process_at ps e.a).name (process_at ps e.b).name (kind_at ks e.kind).name p.0 q.0 k.0 p.1 q.1 k.1 (join_free ps ks front e back is apart_all few) })
@@ -133,7 +134,7 @@ edges_go g rs ks ps front (e ∷ back) lets kinds processes kinds_differ differ 
 
 pub text_stands : (v : SpecParts) → IsSoundValue v → IsSpecText (spec_text v) v
 text_stands v is =
-    let few_kinds : length v.kinds ≤ 16 = (let few = is.network.few_kinds in omega (arith, few, length-map {B = ℕ × ℕ} v.kinds (λ (k : PairSpec). (k.role_a, k.role_b)))) in
+    let few_kinds : length v.kinds ≤ MAX_KINDS = (let few = is.network.few_kinds in omega (arith, few, length-map {B = ℕ × ℕ} v.kinds (λ (k : PairSpec). (k.role_a, k.role_b)))) in
     let last = At v.roles v.kinds v.processes v.edges after_done in
     let edges : List (List ℕ) = map (edge_text v.processes v.kinds) v.edges ++ (line_for done_line ∷ []) in
     let processes : List (List ℕ) = map (process_text v.roles) v.processes ++ edges in

@@ -4,6 +4,7 @@ use Rattle.std.proofs.lemmas.Bool.{cases_lt, cases_eq, eqb-true}
 use Rattle.std.proofs.lemmas.List.{get_or_append_left, get_or_default, get_or-map, length-map, map-append}
 use Rattle.std.proofs.lemmas.List.Elements.{All-push}
 use Rattle.std.proofs.lemmas.List.Quantifiers.{all_pairs_push}
+use Rattle.interconnection.specs.declared.limits.TheConstants.{MAX_KINDS, MAX_NEIGHBOURS, MAX_PROCESSES, MAX_ROLES}
 use Rattle.pair_structure.specs.Role.{RoleParts}
 use Rattle.ctl_form.specs.declared.pair_spec.PairSpec.{PairSpec}
 use Rattle.interconnection.specs.declared.parts.Edge.{Edge}
@@ -19,7 +20,7 @@ wider : (roles : List RoleParts) (r : RoleParts) (n : ℕ) → n < length roles 
 wider roles r n lt = omega (arith, lt, length-append roles (r ∷ []))
 
 pub role_grown : (roles : List RoleParts) (r : RoleParts) (ends : List (ℕ × ℕ)) (processes : List Process) (edges : List Edge)
-    → AreLawful roles ends processes edges → length roles + 1 ≤ 16 → AreLawful (roles ++ r ∷ []) ends processes edges
+    → AreLawful roles ends processes edges → length roles + 1 ≤ MAX_ROLES → AreLawful (roles ++ r ∷ []) ends processes edges
 role_grown roles r ends processes edges h room = record {
   few_roles = omega (arith, room, length-append roles (r ∷ []));
   few_kinds = h.few_kinds;
@@ -37,7 +38,7 @@ same_ends : (ends : List (ℕ × ℕ)) (pair : ℕ × ℕ) (k : ℕ) → k < len
 same_ends ends pair k lt = get_or_append_left ends (pair ∷ []) (0, 0) k lt
 
 pub kind_grown : (roles : List RoleParts) (ends : List (ℕ × ℕ)) (pair : ℕ × ℕ) (processes : List Process) (edges : List Edge)
-    → AreLawful roles ends processes edges → length ends + 1 ≤ 16 → AreRoles roles pair → AreLawful roles (ends ++ pair ∷ []) processes edges
+    → AreLawful roles ends processes edges → length ends + 1 ≤ MAX_KINDS → AreRoles roles pair → AreLawful roles (ends ++ pair ∷ []) processes edges
 kind_grown roles ends pair processes edges h room within = record {
   few_roles = h.few_roles;
   few_kinds = omega (arith, room, length-append ends (pair ∷ []));
@@ -56,7 +57,7 @@ same_role : (processes : List Process) (process : Process) (k : ℕ) → k < len
 same_role processes process k lt = ap (λ (p : Process). p.role) (get_or_append_left processes (process ∷ []) (record { name = []; role = 0 }) k lt)
 
 pub process_grown : (roles : List RoleParts) (ends : List (ℕ × ℕ)) (processes : List Process) (process : Process) (edges : List Edge)
-    → AreLawful roles ends processes edges → length processes + 1 ≤ 1024 → process.role < length roles → ((k : ℕ) → degree_of edges k ≤ 32) → AreLawful roles ends (processes ++ process ∷ []) edges
+    → AreLawful roles ends processes edges → length processes + 1 ≤ MAX_PROCESSES → process.role < length roles → ((k : ℕ) → degree_of edges k ≤ MAX_NEIGHBOURS) → AreLawful roles ends (processes ++ process ∷ []) edges
 process_grown roles ends processes process edges h room within few = record {
   few_roles = h.few_roles;
   few_kinds = h.few_kinds;
@@ -90,7 +91,7 @@ one_more edges e k =
     let split = ap length (beside-append edges e k) ∙ length-append (beside edges k) (other_end k e) in omega (arith, before, after, split)
 
 -- a process that the edge joins has room for it
-pub degree_grown : (edges : List Edge) (e : Edge) (k : ℕ) → ((n : ℕ) → IsCrowded edges e.a e.b n → ⊥) → degree_of edges k ≤ 32 → degree_of (edges ++ e ∷ []) k ≤ 32
+pub degree_grown : (edges : List Edge) (e : Edge) (k : ℕ) → ((n : ℕ) → IsCrowded edges e.a e.b n → ⊥) → degree_of edges k ≤ MAX_NEIGHBOURS → degree_of (edges ++ e ∷ []) k ≤ MAX_NEIGHBOURS
 degree_grown edges e k none few = elim (cases_eq e.a k) [
   | inl same ↦ joined (inl (sym same))
   | inr apart ↦ elim (cases_eq e.b k) [
@@ -99,14 +100,14 @@ degree_grown edges e k none few = elim (cases_eq e.a k) [
   ]
 ]
   where
-    joined : (k ≡ e.a) ⊎ (k ≡ e.b) → degree_of (edges ++ e ∷ []) k ≤ 32
-    joined at = elim (cases_lt (degree_of edges k) 32) [
+    joined : (k ≡ e.a) ⊎ (k ≡ e.b) → degree_of (edges ++ e ∷ []) k ≤ MAX_NEIGHBOURS
+    joined at = elim (cases_lt (degree_of edges k) MAX_NEIGHBOURS) [
       | inl lt ↦ (let one = few_ends (e.a == k) (e.b == k) e.b e.a in omega (arith, one, one_more edges e k, lt))
       | inr full ↦ absurd (none k (record { one_of = at; degree = full }))
     ]
 
 pub edge_grown : (roles : List RoleParts) (ends : List (ℕ × ℕ)) (processes : List Process) (edges : List Edge) (e : Edge)
-    → AreLawful roles ends processes edges → IsInRange ends processes e → JoinsTwo e → (AreJoined edges e.a e.b → ⊥) → HasRoles ends processes e → ((k : ℕ) → IsCrowded edges e.a e.b k → ⊥) → ((k : ℕ) → degree_of edges k ≤ 32)
+    → AreLawful roles ends processes edges → IsInRange ends processes e → JoinsTwo e → (AreJoined edges e.a e.b → ⊥) → HasRoles ends processes e → ((k : ℕ) → IsCrowded edges e.a e.b k → ⊥) → ((k : ℕ) → degree_of edges k ≤ MAX_NEIGHBOURS)
     → AreLawful roles ends processes (edges ++ e ∷ [])
 edge_grown roles ends processes edges e h within differ fresh fits none few = record {
   few_roles = h.few_roles;
@@ -129,7 +130,7 @@ pub ends_at : (kinds : List PairSpec) (n : ℕ) → n < length kinds → ends_of
 ends_at kinds n lt = get_or-map (λ (k : PairSpec). (k.role_a, k.role_b)) kinds n (record { name = []; role_a = 0; role_b = 0; clauses = [] }) (0, 0) lt
 
 pub kind_more : (roles : List RoleParts) (kinds : List PairSpec) (k : PairSpec) (processes : List Process) (edges : List Edge)
-    → AreLawful roles (kind_ends kinds) processes edges → length kinds + 1 ≤ 16 → (k.role_a < length roles) × (k.role_b < length roles) → AreLawful roles (kind_ends (kinds ++ k ∷ [])) processes edges
+    → AreLawful roles (kind_ends kinds) processes edges → length kinds + 1 ≤ MAX_KINDS → (k.role_a < length roles) × (k.role_b < length roles) → AreLawful roles (kind_ends (kinds ++ k ∷ [])) processes edges
 kind_more roles kinds k processes edges h room within = subst (λ ends. AreLawful roles ends processes edges) (sym (ends_push kinds k))
     (kind_grown roles (kind_ends kinds) (k.role_a, k.role_b) processes edges h (omega (arith, room, length-map {B = ℕ × ℕ} kinds (λ (k : PairSpec). (k.role_a, k.role_b)))) within)
 

@@ -5,7 +5,7 @@ use Rattle.std.proofs.lemmas.Slice.Eq.{bytes_eq-Decides}
 use Rattle.ctl_text.specs.Item.{Said, head_line, role_line, local_line, start_line, arc_line, kind_line, require_line, end_line, process_line, edge_line, done_line, words_for, Says}
 use Rattle.ctl_text.specs.Lines.{IsRequire}
 use Rattle.ctl_form.specs.Form.{Form}
-use Rattle.ctl_form.specs.Kind.{role_at}
+use Rattle.pair_structure.specs.Parts.{role_at}
 use Rattle.pair_structure.specs.Role.{RoleParts}
 use Rattle.ctl_text.specs.State.{State, Group, before_head, among_roles, in_locals, in_arcs, among_kinds, in_kind, among_processes, among_edges, after_done, MayStand}
 use Rattle.ctl_text.specs.Cause.{IsClauseSpelled, MaySay}

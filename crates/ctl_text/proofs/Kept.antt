@@ -6,6 +6,8 @@ use Rattle.std.proofs.lemmas.List.Quantifiers.{all_pairs_push}
 use Rattle.std.proofs.lemmas.List.Folds.{Any-from_list_any, list_any-from_Any}
 use Rattle.std.proofs.lemmas.Bool.{cases_lt, eq-eqb, eqb-true}
 use Rattle.std.specs.List.{list_any}
+use Rattle.pair_structure.specs.declared.limits.TheConstants.{MAX_ARCS, MAX_LOCALS}
+use Rattle.interconnection.specs.declared.limits.TheConstants.{MAX_KINDS, MAX_PROCESSES, MAX_ROLES}
 use Rattle.pair_structure.specs.declared.side.LocalArc.{LocalArc}
 use Rattle.pair_structure.specs.Role.{RoleParts, JoinsTwo, AreLawful, HasArcFrom}
 use Rattle.ctl_form.specs.declared.pair_spec.PairSpec.{PairSpec}
@@ -24,9 +26,9 @@ use Rattle.ctl_text.proofs.Named.{contained, named_at, number_within}
 not_over : (n m : ℕ) → (m ≤ n → ⊥) → n < m
 not_over n m not_le = elim (cases_lt n m) [ inl lt ↦ lt | inr le ↦ absurd (not_le le) ]
 
-pub locals_more : (names : List (List ℕ)) (name : List ℕ) → AreLocals names → IsFree (NameStands names 32 name) → AreLocals (names ++ name ∷ [])
+pub locals_more : (names : List (List ℕ)) (name : List ℕ) → AreLocals names → IsFree (NameStands names MAX_LOCALS name) → AreLocals (names ++ name ∷ [])
 locals_more names name sound free = record {
-  few_locals = (let few = not_over (length names) 32 (λ h. free.free (TooMany 32) (inr (refl, h))) in omega (arith, length-append names (name ∷ [])));
+  few_locals = (let few = not_over (length names) MAX_LOCALS (λ h. free.free (TooMany MAX_LOCALS) (inr (refl, h))) in omega (arith, length-append names (name ∷ [])));
   names_differ = all_pairs_push (λ x y. x ≢ y) names name sound.names_differ (λ k d lt same. free.free Twice (inl (refl, (k, lt, get_or_default names k name d lt ∙ same))));
 }
 
@@ -37,7 +39,7 @@ arcs_more names made p q arc sound free from to from_in to_in =
     let q_there = contained names q (λ h. free.free UnknownName (inr (inl (refl, h)))) in
     let p_is = named_at names p p_there in
     let q_is = named_at names q q_there in record {
-      few_arcs = (let few = not_over (length made) 128 (λ h. free.free (TooMany 128) (inr (inr (inr (inr (refl, h)))))) in omega (arith, length-append made (arc ∷ [])));
+      few_arcs = (let few = not_over (length made) MAX_ARCS (λ h. free.free (TooMany MAX_ARCS) (inr (inr (inr (inr (refl, h)))))) in omega (arith, length-append made (arc ∷ [])));
       joins = All-push (JoinsTwo (length names)) made arc sound.joins (record { from = from_in; to = to_in; differ = λ same. free.free SelfArc (inr (inr (inr (inl (refl, (let n : number_in names p ≡ number_in names q = cc in sym p_is ∙ ap (λ n. get_or names n []) n ∙ q_is)))))) });
       ends_differ = all_pairs_push (λ (x y : LocalArc). x.from ≡ y.from → x.to ≡ y.to → ⊥) made arc sound.ends_differ
           (λ k d lt f t. free.free Twice (inr (inr (inl (refl, (k, get_or made k d, lt, get_or_default made k (get_or made k d) d lt, (f ∙ from, t ∙ to)))))));
@@ -82,14 +84,14 @@ role_made names start made distinct starts arcs free = record {
 }
 
 -- there is room for one more
-pub role_room : (roles : List RoleParts) (name : List ℕ) → IsFree (NameStands (role_names roles) 16 name) → length roles + 1 ≤ 16
-role_room roles name free = let few = not_over (length (role_names roles)) 16 (λ h. free.free (TooMany 16) (inr (refl, h))) in omega (arith, length-map roles (λ (r : RoleParts). r.name))
+pub role_room : (roles : List RoleParts) (name : List ℕ) → IsFree (NameStands (role_names roles) MAX_ROLES name) → length roles + 1 ≤ MAX_ROLES
+role_room roles name free = let few = not_over (length (role_names roles)) MAX_ROLES (λ h. free.free (TooMany MAX_ROLES) (inr (refl, h))) in omega (arith, length-map roles (λ (r : RoleParts). r.name))
 
-pub kind_room : (roles : List RoleParts) (kinds : List PairSpec) (name a b : List ℕ) → IsFree (KindStands roles kinds name a b) → length kinds + 1 ≤ 16
-kind_room roles kinds name a b free = let few = not_over (length (kind_names kinds)) 16 (λ h. free.free (TooMany 16) (inr (inr (inr (refl, h))))) in omega (arith, length-map kinds (λ (k : PairSpec). k.name))
+pub kind_room : (roles : List RoleParts) (kinds : List PairSpec) (name a b : List ℕ) → IsFree (KindStands roles kinds name a b) → length kinds + 1 ≤ MAX_KINDS
+kind_room roles kinds name a b free = let few = not_over (length (kind_names kinds)) MAX_KINDS (λ h. free.free (TooMany MAX_KINDS) (inr (inr (inr (refl, h))))) in omega (arith, length-map kinds (λ (k : PairSpec). k.name))
 
-pub process_room : (roles : List RoleParts) (processes : List Process) (name r : List ℕ) → IsFree (ProcessStands roles processes name r) → length processes + 1 ≤ 1024
-process_room roles processes name r free = let few = not_over (length (process_names processes)) 1024 (λ h. free.free (TooMany 1024) (inr (inr (refl, h)))) in omega (arith, length-map processes (λ (p : Process). p.name))
+pub process_room : (roles : List RoleParts) (processes : List Process) (name r : List ℕ) → IsFree (ProcessStands roles processes name r) → length processes + 1 ≤ MAX_PROCESSES
+process_room roles processes name r free = let few = not_over (length (process_names processes)) MAX_PROCESSES (λ h. free.free (TooMany MAX_PROCESSES) (inr (inr (refl, h)))) in omega (arith, length-map processes (λ (p : Process). p.name))
 
 pub no_locals : (names : List (List ℕ)) → names ≡ [] → AreLocals names
 no_locals names none = rw none (record { few_locals = omega arith; names_differ = λ i j d lt within. absurd (omega arith) })
@@ -118,7 +120,7 @@ done_sound s h = record {
 }
 
 -- a role is opened
-pub role_opens : (s : State) (name role_name : List ℕ) (names : List (List ℕ)) → IsSoundState s → IsFree (NameStands (role_names s.parts.roles) 16 name) → names ≡ [] → IsSoundState (record { parts = s.parts; group = in_locals role_name names })
+pub role_opens : (s : State) (name role_name : List ℕ) (names : List (List ℕ)) → IsSoundState s → IsFree (NameStands (role_names s.parts.roles) MAX_ROLES name) → names ≡ [] → IsSoundState (record { parts = s.parts; group = in_locals role_name names })
 role_opens s name role_name names sound free none = record {
   few_roles = role_room s.parts.roles name free;
   few_kinds = (let h = sound.few_kinds in omega arith);

@@ -3,13 +3,13 @@ use Rattle.std.proofs.Common.{ℕ, suc, ◌≡◌, ◌<◌, ◌≤◌, inl, inr,
 use Rattle.std.proofs.lemmas.List.{length-map, map-append, get_or-map}
 use Rattle.std.proofs.lemmas.List.Elements.{Contains-get_or}
 use Rattle.std.specs.List.{flat_map}
+use Rattle.interconnection.specs.declared.limits.TheConstants.{MAX_KINDS}
+use Rattle.pair_structure.specs.Parts.{name_at, role_at}
 use Rattle.pair_structure.specs.Role.{RoleParts}
 use Rattle.ctl_form.specs.declared.pair_spec.PairSpec.{PairSpec}
 use Rattle.ctl_form.specs.Form.{Form}
-use Rattle.ctl_form.specs.Kind.{role_at}
 use Rattle.text_cause.specs.declared.cause.TextCause.{TextCause}
 use Rattle.ctl_text.specs.inside.LineCause.{KindStands, KindEndStands}
-use Rattle.formula_text.specs.FormulaText.{name_at}
 use Rattle.ctl_text.specs.Item.{kind_line, end_line, process_line, edge_line, done_line}
 use Rattle.ctl_text.specs.Required.{IsClosureOver}
 use Rattle.ctl_text.specs.SoundValue.{Differ, IsNamedRole, IsNamedKind, IsReadable}
@@ -40,10 +40,10 @@ name_there f xs d k lt differ =
 pub role_there : (rs : List RoleParts) (k : ℕ) → k < length rs → Differ (role_names rs) → Contains (role_names rs) (role_at rs k).name × (number_in (role_names rs) (role_at rs k).name ≡ k)
 role_there rs k lt differ = name_there (λ r. r.name) rs (record { name = []; locals = []; start = 0; arcs = [] }) k lt differ
 
-kind_free : (rs : List RoleParts) (ks : List PairSpec) (name a b : List ℕ) → Contains (role_names rs) a → Contains (role_names rs) b → (Contains (kind_names ks) name → ⊥) → length (kind_names ks) < 16 → (cause : TextCause) → KindStands rs ks name a b cause → ⊥
+kind_free : (rs : List RoleParts) (ks : List PairSpec) (name a b : List ℕ) → Contains (role_names rs) a → Contains (role_names rs) b → (Contains (kind_names ks) name → ⊥) → length (kind_names ks) < MAX_KINDS → (cause : TextCause) → KindStands rs ks name a b cause → ⊥
 kind_free rs ks name a b one two fresh few cause (inl h) = use_free (role_names rs) a one cause h
 kind_free rs ks name a b one two fresh few cause (inr (inl h)) = use_free (role_names rs) b two cause h
-kind_free rs ks name a b one two fresh few cause (inr (inr h)) = name_free (kind_names ks) 16 name fresh few cause h
+kind_free rs ks name a b one two fresh few cause (inr (inr h)) = name_free (kind_names ks) MAX_KINDS name fresh few cause h
 
 kind_end_free : (rs : List RoleParts) (k : PairSpec) → (IsClosureOver (role_at rs k.role_a) (role_at rs k.role_b) k.clauses → ⊥) → (cause : TextCause) → KindEndStands rs k cause → ⊥
 kind_end_free rs k small cause h = small h.1
@@ -65,7 +65,7 @@ clauses_go rs ks n p q front (f ∷ back) one two each =
     clause_goes (record { roles = rs; kinds = ks; processes = []; edges = [] }) (record { name = n; role_a = p; role_b = q; clauses = front }) a b f (At rs ks [] [] (Opened n p q (front ++ f ∷ back))) (map (require_text a b) back) refl refl
     (λ i lt. one.locals i [] lt) (λ i lt. two.locals i [] lt) (names_of_role a (λ i lt. one.locals i [] lt) one.role.names_differ) (names_of_role b (λ i lt. two.locals i [] lt) two.role.names_differ) (each 0 f (omega arith)) more
 
-kind_goes : (g : Group) (rs : List RoleParts) (ks : List PairSpec) (k : PairSpec) → LetsKinds g → All IsNamedRole rs → Differ (role_names rs) → IsNamedKind rs k → (Contains (kind_names ks) k.name → ⊥) → length (kind_names ks) < 16
+kind_goes : (g : Group) (rs : List RoleParts) (ks : List PairSpec) (k : PairSpec) → LetsKinds g → All IsNamedRole rs → Differ (role_names rs) → IsNamedKind rs k → (Contains (kind_names ks) k.name → ⊥) → length (kind_names ks) < MAX_KINDS
     → Goes (At rs ks [] [] g) (kind_lines rs k) (At rs (ks ++ k ∷ []) [] [] among_kinds)
 kind_goes g rs ks k lets named differ is fresh few =
     let done = At rs (ks ++ k ∷ []) [] [] among_kinds in
@@ -81,14 +81,14 @@ kind_goes g rs ks k lets named differ is fresh few =
     (subst (λ (p : ℕ). Goes (At rs ks [] [] (Opened k.name p k.role_b [])) rest done) (sym at_a.1) body))
 
 -- where the lines behind them are taken, whatever group is open there
-pub kinds_go : (g : Group) (rs : List RoleParts) (ks back : List PairSpec) (tail : List (List ℕ)) (t : State) → LetsKinds g → All IsNamedRole rs → Differ (role_names rs) → All (IsNamedKind rs) back → Differ (kind_names (ks ++ back)) → length (ks ++ back) ≤ 16
+pub kinds_go : (g : Group) (rs : List RoleParts) (ks back : List PairSpec) (tail : List (List ℕ)) (t : State) → LetsKinds g → All IsNamedRole rs → Differ (role_names rs) → All (IsNamedKind rs) back → Differ (kind_names (ks ++ back)) → length (ks ++ back) ≤ MAX_KINDS
     → ((h : Group) → LetsProcesses h → Goes (At rs (ks ++ back) [] [] h) tail t) → Goes (At rs ks [] [] g) (flat_map (kind_lines rs) back ++ tail) t
 kinds_go g rs ks [] tail t lets named differ each distinct few then = subst (λ (whole : List PairSpec). Goes (At rs whole [] [] g) tail t) (append-nil ks) (then g lets.1)
 kinds_go g rs ks (k ∷ back) tail t lets named differ each distinct few then =
     let same : (ks ++ k ∷ []) ++ back ≡ ks ++ k ∷ back = append_assoc ks (k ∷ []) back in
     let fresh = distinct_new (kind_names ks) k.name (kind_names back) (subst Differ (map-append (λ (k : PairSpec). k.name) ks (k ∷ back)) distinct) in
     let first = kind_goes g rs ks k lets named differ (each 0 k (omega arith)) fresh (omega (arith, length-append ks (k ∷ back), length-map ks (λ (k : PairSpec). k.name))) in
-    let more = kinds_go among_kinds rs (ks ++ k ∷ []) back tail t (λ name a b. tt, (λ name r. tt, (λ p q kind. tt, tt))) named differ (λ i d lt. each (suc i) d (omega arith)) (subst (λ (whole : List PairSpec). Differ (kind_names whole)) (sym same) distinct) (subst (λ (whole : List PairSpec). length whole ≤ 16) (sym same) few)
+    let more = kinds_go among_kinds rs (ks ++ k ∷ []) back tail t (λ name a b. tt, (λ name r. tt, (λ p q kind. tt, tt))) named differ (λ i d lt. each (suc i) d (omega arith)) (subst (λ (whole : List PairSpec). Differ (kind_names whole)) (sym same) distinct) (subst (λ (whole : List PairSpec). length whole ≤ MAX_KINDS) (sym same) few)
     (λ h lets_h. subst (λ (whole : List PairSpec). Goes (At rs whole [] [] h) tail t) (sym same) (then h lets_h)) in
     subst (λ (lines : List (List ℕ)). Goes (At rs ks [] [] g) lines t) (sym (append_assoc (kind_lines rs k) (flat_map (kind_lines rs) back) tail))
     (goes_further (At rs ks [] [] g) (At rs (ks ++ k ∷ []) [] [] among_kinds) t (kind_lines rs k) (flat_map (kind_lines rs) back ++ tail) first more)

@@ -3,7 +3,6 @@ pub mod CauseRows
 pub mod Clauses
 pub mod ClosureCount
 pub mod Crowded
-pub mod EdgeCount
 pub mod EdgeFits
 pub mod EdgeTables
 pub mod GraphAgain

@@ -1,24 +1,10 @@
 -- How a text is cut into lines, and a line into words.
-use Rattle.std.proofs.Common.{ℕ, zero, suc, ◌≡◌, ◌<◌, ◌≤◌, ◌+◌, Bool, true, false, not, List, [], ◌∷◌, ◌==◌, nat_lt, length, get_or, take, drop, refl, arith, position, Some, None, add-one, cond}
+use Rattle.std.proofs.Common.{ℕ, zero, suc, ◌≡◌, ◌<◌, ◌≤◌, ◌+◌, true, false, not, List, [], ◌∷◌, ◌==◌, length, get_or, take, drop, refl, arith, position, Some, None, add-one}
 use Rattle.std.proofs.lemmas.List.Quantifiers.{position-Some}
-use Rattle.std.proofs.lemmas.List.Sums.{fails_before_first}
-use Rattle.std.proofs.lemmas.Bool.Decides.{nat_tests}
 use Rattle.std.proofs.Math.Seq.{drop-length, take-length}
-use Rattle.std.specs.List.{position_or_len}
-use Rattle.ctl_text.specs.Lines.{lines_of, words_of, is_space, goes_on}
-
-chosen_none : (b : Bool) (n : ℕ) → cond b (Some n) None ≡ None → b ≡ false
-chosen_none true n e = cc
-chosen_none false n e = refl
-
-pub none_passes_at : {X : Type 0} (p : X → Bool) (xs : List X) (d : X) → position p xs ≡ None → (k : ℕ) → k < length xs → p (get_or xs k d) ≡ false
-none_passes_at p xs d e k lt =
-    let far : nat_lt (position_or_len p xs) (length xs) ≡ false = chosen_none (nat_lt (position_or_len p xs) (length xs)) (position_or_len p xs) e in
-    let past : length xs ≤ position_or_len p xs = grind (arith, nat_tests) in
-    fails_before_first p xs k d (omega arith)
-
-pub none_passes : (p : ℕ → Bool) (xs : List ℕ) → position p xs ≡ None → (k : ℕ) → k < length xs → p (get_or xs k 0) ≡ false
-none_passes p xs e k lt = none_passes_at p xs 0 e k lt
+use Rattle.formula_text.proofs.Tests.{none_passes, passed, failed}
+use Rattle.formula_text.specs.Token.{is_space}
+use Rattle.ctl_text.specs.Lines.{lines_of, words_of, goes_on}
 
 cut_before : (bytes : List ℕ) (n : ℕ) → n < length bytes → (get_or bytes n 0 == 10) ≡ true → ((k : ℕ) → k < n → (get_or bytes k 0 == 10) ≡ false) → lines_of bytes ≡ take n bytes ∷ lines_of (drop (suc n) bytes)
 cut_before [] n lt at before = absurd (omega arith)
@@ -41,10 +27,6 @@ last_line (b ∷ c ∷ bytes) some none =
 
 pub cut_none : (bytes : List ℕ) → position (λ b. b == 10) bytes ≡ None → 0 < length bytes → lines_of bytes ≡ bytes ∷ []
 cut_none bytes e some = last_line bytes some (none_passes (λ b. b == 10) bytes e)
-
-passed : (t : Bool) → not t ≡ false → t ≡ true
-passed true e = refl
-passed false e = cc
 
 spaces_before : (bytes : List ℕ) (n : ℕ) → n ≤ length bytes → ((k : ℕ) → k < n → not (is_space (get_or bytes k 0)) ≡ false) → words_of bytes ≡ words_of (drop n bytes)
 spaces_before bytes zero lt before = refl
@@ -91,10 +73,6 @@ word_until (b ∷ c ∷ bytes) (suc n) le ends before =
 begun : (bytes : List ℕ) → goes_on bytes ≡ true → is_space (get_or bytes 0 0) ≡ false
 begun [] e = cc
 begun (b ∷ bytes) e = failed (is_space b) e
-  where
-    failed : (t : Bool) → not t ≡ true → t ≡ false
-    failed false e = refl
-    failed true e = cc
 
 -- the word ends at the first space, and not where it begins
 pub word_cut : (bytes : List ℕ) (n : ℕ) → goes_on bytes ≡ true → position is_space bytes ≡ Some n → (0 < n) × (words_of bytes ≡ take n bytes ∷ words_of (drop n bytes))

@@ -4,17 +4,19 @@ use Rattle.std.proofs.lemmas.Bool.Decides.{nat_tests}
 use Rattle.std.proofs.lemmas.List.Folds.{list_all-append}
 use Rattle.std.specs.Char.{is_ascii_alphabetic}
 use Rattle.std.specs.List.{AllPass, list_all}
+use Rattle.pair_structure.specs.Parts.{Names, name_at}
 use Rattle.pair_structure.specs.Name.{IsName, is_name_byte}
 use Rattle.pair_structure.specs.declared.side.Side.{Side}
 use Rattle.pair_structure.specs.declared.side.Side.TheVariants.{A, B}
 use Rattle.ctl_form.specs.Form.{Form, truth, falsity, at, neg, both, either, implies, next, always, sometime, until}
-use Rattle.formula_text.specs.FormulaText.{Names, name_at, formula_text, path_letter, side_letters, until_letter}
+use Rattle.formula_text.specs.FormulaText.{formula_text, path_letter, side_letters, until_letter}
 use Rattle.formula_text.specs.Canonical.{IsOver}
 use Rattle.ctl_text.specs.Item.{Said, head_line, role_line, local_line, start_line, arc_line, kind_line, require_line, end_line, process_line, edge_line, done_line, words_for, IsSpelled}
-use Rattle.ctl_text.specs.Lines.{lines_of, words_of, is_space, before_first, is_text_byte, IsText, ArePassed, IsRequire}
+use Rattle.ctl_text.specs.Lines.{lines_of, words_of, before_first, is_text_byte, IsText, ArePassed, IsRequire}
 use Rattle.ctl_text.specs.Required.{tokens_in}
 use Rattle.ctl_text.specs.SpecText.{spaced, ended, line_for}
-use Rattle.formula_text.specs.Token.{tokens_of, is_gap, are_joined, joins, before_token}
+use Rattle.formula_text.specs.Token.{tokens_of, is_space, are_joined, joins, before_token}
+use Rattle.formula_text.proofs.Tests.{both_true}
 
 -- a byte that is seen: no space and no control
 abbrev pub is_seen : ℕ → Bool
@@ -30,10 +32,6 @@ is_plain b = nat_le 32 b && nat_le b 126
 
 abbrev pub IsPlain : List ℕ → Type 0
 IsPlain line = list_all is_plain line ≡ true
-
-both_true : (b t : Bool) → (b && t) ≡ true → (b ≡ true) × (t ≡ true)
-both_true true t e = (refl, e)
-both_true false t e = cc
 
 seen_no_space : (b : ℕ) → is_seen b ≡ true → is_space b ≡ false
 seen_no_space b e = grind (arith, nat_tests)
@@ -229,7 +227,7 @@ formula_plain a b (until all weak f g) na nb over =
     two_plain ((path_letter all ∷ codes "[") ++ formula_text a b f) (codes " ") (until_letter weak ∷ codes " ") (formula_text a b g) (codes "]") (plain_append (path_letter all ∷ codes "[") (formula_text a b f) (path_plain all 91 refl) (formula_plain a b f na nb over.0)) refl (until_plain weak) (formula_plain a b g na nb over.1) refl
 
 -- the tokens of a text are those of its words
-gap_ends : (b c : ℕ) → is_gap b ≡ false → is_gap c ≡ true → are_joined b c ≡ false
+gap_ends : (b c : ℕ) → is_space b ≡ false → is_space c ≡ true → are_joined b c ≡ false
 gap_ends b c hb hc = grind (arith, nat_tests)
 
 abbrev FirstWord : ℕ → List ℕ → Type 0
@@ -255,14 +253,14 @@ pushed_some : (b : ℕ) (xs : List (List ℕ)) → 0 < length (before_token b xs
 pushed_some b [] = omega arith
 pushed_some b (x ∷ xs) = omega arith
 
-some_tokens : (c : ℕ) (w : List ℕ) → is_gap c ≡ false → 0 < length (tokens_of (c ∷ w))
+some_tokens : (c : ℕ) (w : List ℕ) → is_space c ≡ false → 0 < length (tokens_of (c ∷ w))
 some_tokens c w e = by (joins c w) refl
   where
     by : (g : Bool) → joins c w ≡ g → 0 < length (tokens_of (c ∷ w))
     by true h = rw (e, h) (pushed_some c (tokens_of w))
     by false h = rw (e, h) (omega arith)
 
-lone_token : (b : ℕ) → is_gap b ≡ false → tokens_of (b ∷ []) ≡ (b ∷ []) ∷ []
+lone_token : (b : ℕ) → is_space b ≡ false → tokens_of (b ∷ []) ≡ (b ∷ []) ∷ []
 lone_token b e = rw e refl
 
 lone_word : (b : ℕ) → is_space b ≡ false → words_of (b ∷ []) ≡ (b ∷ []) ∷ []
@@ -271,17 +269,17 @@ lone_word b e = rw e refl
 apart_words : (b c : ℕ) (t : List ℕ) → is_space b ≡ false → is_space c ≡ true → words_of (b ∷ c ∷ t) ≡ (b ∷ []) ∷ words_of (c ∷ t)
 apart_words b c t e h = rw (e, h) refl
 
-apart_tokens : (b c : ℕ) (t : List ℕ) → is_gap b ≡ false → are_joined b c ≡ false → tokens_of (b ∷ c ∷ t) ≡ (b ∷ []) ∷ tokens_of (c ∷ t)
+apart_tokens : (b c : ℕ) (t : List ℕ) → is_space b ≡ false → are_joined b c ≡ false → tokens_of (b ∷ c ∷ t) ≡ (b ∷ []) ∷ tokens_of (c ∷ t)
 apart_tokens b c t e h = rw (e, h) refl
 
-joined_tokens : (b c : ℕ) (t : List ℕ) → is_gap b ≡ false → are_joined b c ≡ true → tokens_of (b ∷ c ∷ t) ≡ before_token b (tokens_of (c ∷ t))
+joined_tokens : (b c : ℕ) (t : List ℕ) → is_space b ≡ false → are_joined b c ≡ true → tokens_of (b ∷ c ∷ t) ≡ before_token b (tokens_of (c ∷ t))
 joined_tokens b c t e h = rw (e, h) refl
 
 joined_words : (b c : ℕ) (t : List ℕ) → is_space b ≡ false → is_space c ≡ false → words_of (b ∷ c ∷ t) ≡ before_first b (words_of (c ∷ t))
 joined_words b c t e h = rw (e, h) refl
 
 -- where both bytes are of one word
-within_word : (b c : ℕ) (t w : List ℕ) (ws : List (List ℕ)) (g : Bool) → is_gap b ≡ false → is_gap c ≡ false → are_joined b c ≡ g → tokens_of (c ∷ w) ++ tokens_in ws ≡ tokens_of (c ∷ t)
+within_word : (b c : ℕ) (t w : List ℕ) (ws : List (List ℕ)) (g : Bool) → is_space b ≡ false → is_space c ≡ false → are_joined b c ≡ g → tokens_of (c ∷ w) ++ tokens_in ws ≡ tokens_of (c ∷ t)
     → tokens_of (b ∷ c ∷ w) ++ tokens_in ws ≡ tokens_of (b ∷ c ∷ t)
 within_word b c t w ws true e h j more =
     ap (λ ts. ts ++ tokens_in ws) (joined_tokens b c w e j) ∙ token_first b (tokens_of (c ∷ w)) (tokens_in ws) (some_tokens c w h) ∙ ap (before_token b) more ∙ sym (joined_tokens b c t e j)

@@ -1,14 +1,14 @@
 -- Lines that are taken one after another.
 use Rattle.std.proofs.Common.{ℕ, ◌≡◌, List, [], ◌∷◌, ◌++◌, codes, refl, sym, subst}
 use Rattle.std.specs.List.{flat_map}
+use Rattle.pair_structure.specs.Parts.{Names, role_at}
 use Rattle.ctl_form.specs.declared.pair_spec.PairSpec.{PairSpec}
 use Rattle.ctl_form.specs.Form.{Form}
-use Rattle.ctl_form.specs.Kind.{role_at}
 use Rattle.formula_text.specs.Canonical.{AreNames}
 use Rattle.text_cause.specs.Cause.{IsFree}
 use Rattle.ctl_text.specs.Cause.{Takes}
 use Rattle.ctl_text.specs.inside.LineCause.{LineBlocks}
-use Rattle.formula_text.specs.FormulaText.{Names, formula_text}
+use Rattle.formula_text.specs.FormulaText.{formula_text}
 use Rattle.ctl_text.specs.Item.{Said, require_line, words_for, IsSpelled}
 use Rattle.ctl_text.specs.inside.Judged.{IsSpelledOver}
 use Rattle.ctl_text.specs.Lines.{lines_of, words_of}

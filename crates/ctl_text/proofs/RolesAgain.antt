@@ -5,6 +5,9 @@ use Rattle.std.proofs.Math.Seq.{get_or-append_seam}
 use Rattle.std.proofs.lemmas.List.Elements.{Contains-get_or}
 use Rattle.std.specs.List.{flat_map}
 use Rattle.std.proofs.lemmas.Bool.{cases_lt}
+use Rattle.pair_structure.specs.declared.limits.TheConstants.{MAX_ARCS, MAX_LOCALS}
+use Rattle.interconnection.specs.declared.limits.TheConstants.{MAX_ROLES}
+use Rattle.pair_structure.specs.Parts.{name_at}
 use Rattle.pair_structure.specs.declared.side.LocalArc.{LocalArc}
 use Rattle.pair_structure.specs.Name.{IsName}
 use Rattle.pair_structure.specs.Role.{RoleParts, JoinsTwo, HasArc, HasArcFrom}
@@ -14,7 +17,6 @@ use Rattle.interconnection.specs.declared.parts.Edge.{Edge}
 use Rattle.text_cause.specs.declared.cause.TextCause.{TextCause}
 use Rattle.ctl_text.specs.Cause.{UseStands}
 use Rattle.ctl_text.specs.inside.LineCause.{NameStands, ArcStands, RoleEndStands}
-use Rattle.formula_text.specs.FormulaText.{name_at}
 use Rattle.ctl_text.specs.Item.{role_line, local_line, start_line, end_line}
 use Rattle.ctl_text.specs.SoundValue.{Differ, IsNamedRole}
 use Rattle.ctl_text.specs.SpecText.{line_for, local_text, arc_item, arc_text, role_lines}
@@ -51,15 +53,15 @@ number_again names k distinct lt =
       ]
     ]
 
-locals_go : (rs : List RoleParts) (n : List ℕ) (front back : List (List ℕ)) → Differ (front ++ back) → length (front ++ back) ≤ 32 → All IsName back
+locals_go : (rs : List RoleParts) (n : List ℕ) (front back : List (List ℕ)) → Differ (front ++ back) → length (front ++ back) ≤ MAX_LOCALS → All IsName back
     → Goes (At rs [] [] [] (in_locals n front)) (map local_text back) (At rs [] [] [] (in_locals n (front ++ back)))
 locals_go rs n front [] distinct few names = ap (λ (ls : List (List ℕ)). At rs [] [] [] (in_locals n ls)) (append-nil front)
 locals_go rs n front (x ∷ back) distinct few names =
     let same : (front ++ x ∷ []) ++ back ≡ front ++ x ∷ back = append_assoc front (x ∷ []) back in
     let more = subst (λ (ls : List (List ℕ)). Goes (At rs [] [] [] (in_locals n (front ++ x ∷ []))) (map local_text back) (At rs [] [] [] (in_locals n ls))) same
-    (locals_go rs n (front ++ x ∷ []) back (subst Differ (sym same) distinct) (subst (λ (ls : List (List ℕ)). length ls ≤ 32) (sym same) few) (λ k d lt. names (suc k) d (omega arith))) in
+    (locals_go rs n (front ++ x ∷ []) back (subst Differ (sym same) distinct) (subst (λ (ls : List (List ℕ)). length ls ≤ MAX_LOCALS) (sym same) few) (λ k d lt. names (suc k) d (omega arith))) in
     item_goes (At rs [] [] [] (in_locals n front)) (At rs [] [] [] (in_locals n (front ++ x ∷ back))) (local_line x) (map local_text back) tt tt (names 0 x (omega arith))
-    (record { free = name_free front 32 x (distinct_new front x back distinct) (omega (arith, length-append front (x ∷ back))) }) more
+    (record { free = name_free front MAX_LOCALS x (distinct_new front x back distinct) (omega (arith, length-append front (x ∷ back))) }) more
 
 abbrev EndsDiffer : LocalArc → LocalArc → Type 0
 EndsDiffer x y = x.from ≡ y.from → x.to ≡ y.to → ⊥
@@ -75,7 +77,7 @@ arc_new ls front back a distinct joins differ (i, x, lt, is, ends) =
     let t : x.to ≡ a.to = ends.1 ∙ number_again ls a.to distinct joins.to in
     differ i (length front) a lt (omega (arith, length-append front (a ∷ back))) (ap (λ (x : LocalArc). x.from) first ∙ f ∙ ap (λ (x : LocalArc). x.from) (sym last)) (ap (λ (x : LocalArc). x.to) first ∙ t ∙ ap (λ (x : LocalArc). x.to) (sym last))
 
-arc_free : (ls : List (List ℕ)) (front back : List LocalArc) (a : LocalArc) → Differ ls → JoinsTwo (length ls) a → AllPairs EndsDiffer (front ++ a ∷ back) → length front < 128
+arc_free : (ls : List (List ℕ)) (front back : List LocalArc) (a : LocalArc) → Differ ls → JoinsTwo (length ls) a → AllPairs EndsDiffer (front ++ a ∷ back) → length front < MAX_ARCS
     → (cause : TextCause) → ArcStands ls front (name_at ls a.from) (name_at ls a.to) cause → ⊥
 arc_free ls front back a distinct joins differ few cause (inl h) = h.1 (Contains-get_or ls a.from [] joins.from)
 arc_free ls front back a distinct joins differ few cause (inr (inl h)) = h.1 (Contains-get_or ls a.to [] joins.to)
@@ -86,14 +88,14 @@ arc_free ls front back a distinct joins differ few cause (inr (inr (inr (inr h))
 abbrev Opened : List ℕ → List (List ℕ) → ℕ → List LocalArc → Group
 Opened n ls s made = in_arcs (record { name = n; locals = ls; start = s; arcs = made })
 
-arcs_go : (rs : List RoleParts) (n : List ℕ) (ls : List (List ℕ)) (s : ℕ) (front back : List LocalArc) → All IsName ls → Differ ls → All (JoinsTwo (length ls)) back → AllPairs EndsDiffer (front ++ back) → length (front ++ back) ≤ 128
+arcs_go : (rs : List RoleParts) (n : List ℕ) (ls : List (List ℕ)) (s : ℕ) (front back : List LocalArc) → All IsName ls → Differ ls → All (JoinsTwo (length ls)) back → AllPairs EndsDiffer (front ++ back) → length (front ++ back) ≤ MAX_ARCS
     → Goes (At rs [] [] [] (Opened n ls s front)) (map (arc_text ls) back) (At rs [] [] [] (Opened n ls s (front ++ back)))
 arcs_go rs n ls s front [] names distinct joins differ few = ap (λ (made : List LocalArc). At rs [] [] [] (Opened n ls s made)) (append-nil front)
 arcs_go rs n ls s front (a ∷ back) names distinct joins differ few =
     let same : (front ++ a ∷ []) ++ back ≡ front ++ a ∷ back = append_assoc front (a ∷ []) back in
     let here = joins 0 a (omega arith) in
     let more = subst (λ (made : List LocalArc). Goes (At rs [] [] [] (Opened n ls s (front ++ a ∷ []))) (map (arc_text ls) back) (At rs [] [] [] (Opened n ls s made))) same
-    (arcs_go rs n ls s (front ++ a ∷ []) back names distinct (λ k d lt. joins (suc k) d (omega arith)) (subst (AllPairs EndsDiffer) (sym same) differ) (subst (λ (made : List LocalArc). length made ≤ 128) (sym same) few)) in
+    (arcs_go rs n ls s (front ++ a ∷ []) back names distinct (λ k d lt. joins (suc k) d (omega arith)) (subst (AllPairs EndsDiffer) (sym same) differ) (subst (λ (made : List LocalArc). length made ≤ MAX_ARCS) (sym same) few)) in
     item_goes (At rs [] [] [] (Opened n ls s front)) (At rs [] [] [] (Opened n ls s (front ++ a ∷ back))) (arc_item ls a) (map (arc_text ls) back) tt tt (names a.from [] here.from, names a.to [] here.to)
     (record { free = arc_free ls front back a distinct here differ (omega (arith, length-append front (a ∷ back))) })
     (subst (λ (b : LocalArc). Goes (At rs [] [] [] (Opened n ls s (front ++ b ∷ []))) (map (arc_text ls) back) (At rs [] [] [] (Opened n ls s (front ++ a ∷ back)))) (sym (arc_again ls a distinct here)) more)
@@ -101,7 +103,7 @@ arcs_go rs n ls s front (a ∷ back) names distinct joins differ few =
 end_free : (ls : List (List ℕ)) (made : List LocalArc) → ((p : ℕ) → p < length ls → HasArcFrom made p) → (cause : TextCause) → RoleEndStands ls made cause → ⊥
 end_free ls made leaves cause (p, e, stuck) = stuck.stuck (leaves p stuck.within)
 
-role_goes : (rs : List RoleParts) (r : RoleParts) → IsNamedRole r → (Contains (role_names rs) r.name → ⊥) → length (role_names rs) < 16 → Goes (At rs [] [] [] among_roles) (role_lines r) (At (rs ++ r ∷ []) [] [] [] among_roles)
+role_goes : (rs : List RoleParts) (r : RoleParts) → IsNamedRole r → (Contains (role_names rs) r.name → ⊥) → length (role_names rs) < MAX_ROLES → Goes (At rs [] [] [] among_roles) (role_lines r) (At (rs ++ r ∷ []) [] [] [] among_roles)
 role_goes rs r is fresh few =
     let done = At (rs ++ r ∷ []) [] [] [] among_roles in
     let made : State = At rs [] [] [] (Opened r.name r.locals r.start r.arcs) in
@@ -112,15 +114,15 @@ role_goes rs r is fresh few =
     let start = item_goes (At rs [] [] [] (in_locals r.name r.locals)) done (start_line (name_at r.locals r.start)) rest tt is.role.some (is.locals r.start [] is.role.starts)
     (record { free = use_free r.locals (name_at r.locals r.start) (Contains-get_or r.locals r.start [] is.role.starts) })
     (subst (λ (k : ℕ). Goes (At rs [] [] [] (Opened r.name r.locals k [])) rest done) (sym (number_again r.locals r.start is.role.names_differ is.role.starts)) arcs) in
-    item_goes (At rs [] [] [] among_roles) done (role_line r.name) (map local_text r.locals ++ (line_for (start_line (name_at r.locals r.start)) ∷ rest)) tt tt is.name (record { free = name_free (role_names rs) 16 r.name fresh few })
+    item_goes (At rs [] [] [] among_roles) done (role_line r.name) (map local_text r.locals ++ (line_for (start_line (name_at r.locals r.start)) ∷ rest)) tt tt is.name (record { free = name_free (role_names rs) MAX_ROLES r.name fresh few })
     (goes_further (At rs [] [] [] (in_locals r.name [])) (At rs [] [] [] (in_locals r.name r.locals)) done (map local_text r.locals) (line_for (start_line (name_at r.locals r.start)) ∷ rest) (locals_go rs r.name [] r.locals is.role.names_differ is.role.few_locals is.locals) start)
 
-pub roles_go : (rs back : List RoleParts) → All IsNamedRole back → Differ (role_names (rs ++ back)) → length (rs ++ back) ≤ 16 → Goes (At rs [] [] [] among_roles) (flat_map role_lines back) (At (rs ++ back) [] [] [] among_roles)
+pub roles_go : (rs back : List RoleParts) → All IsNamedRole back → Differ (role_names (rs ++ back)) → length (rs ++ back) ≤ MAX_ROLES → Goes (At rs [] [] [] among_roles) (flat_map role_lines back) (At (rs ++ back) [] [] [] among_roles)
 roles_go rs [] named differ few = ap (λ (rs : List RoleParts). At rs [] [] [] among_roles) (append-nil rs)
 roles_go rs (r ∷ back) named differ few =
     let same : (rs ++ r ∷ []) ++ back ≡ rs ++ r ∷ back = append_assoc rs (r ∷ []) back in
     let fresh = distinct_new (role_names rs) r.name (role_names back) (subst Differ (map-append (λ (r : RoleParts). r.name) rs (r ∷ back)) differ) in
-    let more = roles_go (rs ++ r ∷ []) back (λ k d lt. named (suc k) d (omega arith)) (subst (λ (rs : List RoleParts). Differ (role_names rs)) (sym same) differ) (subst (λ (rs : List RoleParts). length rs ≤ 16) (sym same) few) in
+    let more = roles_go (rs ++ r ∷ []) back (λ k d lt. named (suc k) d (omega arith)) (subst (λ (rs : List RoleParts). Differ (role_names rs)) (sym same) differ) (subst (λ (rs : List RoleParts). length rs ≤ MAX_ROLES) (sym same) few) in
     goes_further (At rs [] [] [] among_roles) (At (rs ++ r ∷ []) [] [] [] among_roles) (At (rs ++ r ∷ back) [] [] [] among_roles) (role_lines r) (flat_map role_lines back)
     (role_goes rs r (named 0 r (omega arith)) fresh (omega (arith, length-append rs (r ∷ back), length-map rs (λ (r : RoleParts). r.name))))
     (subst (λ (whole : List RoleParts). Goes (At (rs ++ r ∷ []) [] [] [] among_roles) (flat_map role_lines back) (At whole [] [] [] among_roles)) same more)

@@ -3,11 +3,11 @@ use Rattle.std.proofs.Common.{ℕ, ◌≡◌, ◌≢◌, ◌<◌, inl, inr, Bool
 use Rattle.std.proofs.lemmas.List.{get_or_append_left, get_or_default, map-append}
 use Rattle.std.proofs.lemmas.List.Elements.{All-push}
 use Rattle.std.proofs.lemmas.List.Quantifiers.{all_pairs_push}
+use Rattle.pair_structure.specs.Parts.{Names, role_at}
 use Rattle.pair_structure.specs.Name.{IsName}
 use Rattle.pair_structure.specs.Role.{RoleParts}
 use Rattle.ctl_form.specs.declared.pair_spec.PairSpec.{PairSpec}
 use Rattle.ctl_form.specs.Form.{Form}
-use Rattle.ctl_form.specs.Kind.{role_at}
 use Rattle.interconnection.specs.declared.parts.Process.{Process}
 use Rattle.text_cause.specs.declared.cause.TextCause.TheVariants.{Long, UnknownName, Twice, ClosureOver}
 use Rattle.formula_text.specs.Canonical.{AreNames}
@@ -18,7 +18,6 @@ use Rattle.ctl_text.specs.Item.{Said, head_line, role_line, local_line, start_li
 use Rattle.ctl_text.specs.Lines.{lines_of}
 use Rattle.formula_text.specs.Long.{IsLong}
 use Rattle.ctl_text.specs.Required.{tokens_in, SpellsOver, AreKnownOver, IsClosureOver}
-use Rattle.formula_text.specs.Sign.{Names}
 use Rattle.ctl_text.specs.inside.Sound.{IsSoundState}
 use Rattle.ctl_text.specs.SoundValue.{Differ, IsNamedRole, IsReadable, IsNamedKind, IsNamedProcess, IsOverRoles, IsSoundValue}
 use Rattle.ctl_text.specs.State.{Group, in_locals, in_arcs, in_kind, State, first_state, MayStand, after, arc_in}

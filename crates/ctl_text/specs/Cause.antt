@@ -1,9 +1,11 @@
 -- Why a line is refused: of each cause, where it stands, by the kinds of lines.
 use Rattle.std.specs.Prelude.{ℕ, ◌≡◌, ◌≢◌, ◌<◌, ◌≤◌, ◌⊎◌, List, [], ◌∷◌, codes, length, Contains}
+use Rattle.pair_structure.specs.declared.limits.TheConstants.{MAX_ARCS, MAX_LOCALS}
+use Rattle.interconnection.specs.declared.limits.TheConstants.{MAX_KINDS, MAX_NEIGHBOURS, MAX_PROCESSES, MAX_ROLES}
 use Rattle.pair_structure.specs.declared.side.LocalArc.{LocalArc}
 use Rattle.pair_structure.specs.Role.{RoleParts, HasArc, HasArcFrom}
 use Rattle.ctl_form.specs.declared.pair_spec.PairSpec.{PairSpec}
-use Rattle.ctl_form.specs.Kind.{role_at}
+use Rattle.pair_structure.specs.Parts.{role_at}
 use Rattle.interconnection.specs.declared.parts.Process.{Process}
 use Rattle.interconnection.specs.declared.parts.Edge.{Edge}
 use Rattle.interconnection.specs.Graph.{degree_of}
@@ -61,11 +63,11 @@ LeavesStuck item group p = ⊥
 
 -- TooMany: one more than so many roles, local states, arcs, kinds or processes
 abbrev pub GoesOver : Said → SpecParts → Group → ℕ → Type 0
-GoesOver (role_line name) v group limit = (limit ≡ 16) × (16 ≤ length (role_names v.roles))
-GoesOver (local_line n) v (in_locals name names) limit = (limit ≡ 32) × (32 ≤ length names)
-GoesOver (arc_line p q free) v (in_arcs r) limit = (limit ≡ 128) × (128 ≤ length r.arcs)
-GoesOver (kind_line name a b) v group limit = (limit ≡ 16) × (16 ≤ length (kind_names v.kinds))
-GoesOver (process_line name r) v group limit = (limit ≡ 1024) × (1024 ≤ length (process_names v.processes))
+GoesOver (role_line name) v group limit = (limit ≡ MAX_ROLES) × (MAX_ROLES ≤ length (role_names v.roles))
+GoesOver (local_line n) v (in_locals name names) limit = (limit ≡ MAX_LOCALS) × (MAX_LOCALS ≤ length names)
+GoesOver (arc_line p q free) v (in_arcs r) limit = (limit ≡ MAX_ARCS) × (MAX_ARCS ≤ length r.arcs)
+GoesOver (kind_line name a b) v group limit = (limit ≡ MAX_KINDS) × (MAX_KINDS ≤ length (kind_names v.kinds))
+GoesOver (process_line name r) v group limit = (limit ≡ MAX_PROCESSES) × (MAX_PROCESSES ≤ length (process_names v.processes))
 GoesOver item v group limit = ⊥
 
 -- ClosureOver: the end of a kind whose closure is too large
@@ -87,10 +89,10 @@ abbrev pub JoinsAgain : Said → SpecParts → Type 0
 JoinsAgain (edge_line p q kind) v = AreDeclared v p q kind × AreJoined v.edges (number_in (process_names v.processes) p) (number_in (process_names v.processes) q)
 JoinsAgain item v = ⊥
 
--- the process is one of two and has 32 edges
+-- the process is one of two and has MAX_NEIGHBOURS edges
 pub record IsCrowded (edges : List Edge) (p q k : ℕ) : Type 0 where
   pub one_of : (k ≡ p) ⊎ (k ≡ q)
-  pub degree : 32 ≤ degree_of edges k
+  pub degree : MAX_NEIGHBOURS ≤ degree_of edges k
 
 -- of the two processes that are crowded it has the lower number
 pub record IsFirstCrowded (edges : List Edge) (p q k : ℕ) : Type 0 where
@@ -102,7 +104,7 @@ pub record AreOfKind (processes : List Process) (kinds : List PairSpec) (p q kin
   pub role_a : (process_at processes p).role ≡ (kind_at kinds kind).role_a
   pub role_b : (process_at processes q).role ≡ (kind_at kinds kind).role_b
 
--- DegreeOver: an edge at this process, which has 32 already
+-- DegreeOver: an edge at this process, which has MAX_NEIGHBOURS already
 abbrev pub Crowds : Said → SpecParts → ℕ → Type 0
 Crowds (edge_line p q kind) v k = AreDeclared v p q kind × IsFirstCrowded v.edges (number_in (process_names v.processes) p) (number_in (process_names v.processes) q) k
 Crowds item v k = ⊥

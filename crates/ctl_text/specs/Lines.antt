@@ -1,5 +1,6 @@
 -- The lines of a text, the words of a line, and which lines are passed over.
 use Rattle.std.specs.Prelude.{ℕ, ◌≡◌, Bool, List, [], ◌∷◌, ◌==◌, ◌||◌, ◌&&◌, nat_le, not, true, false, if◌then◌else◌, All, codes}
+use Rattle.formula_text.specs.Token.{is_space}
 
 -- a byte is the first of what it begins
 abbrev pub before_first : ℕ → List (List ℕ) → List (List ℕ)
@@ -11,16 +12,12 @@ abbrev pub lines_of : List ℕ → List (List ℕ)
 lines_of [] = []
 lines_of (b ∷ bytes) = if b == 10 then [] ∷ lines_of bytes else before_first b (lines_of bytes)
 
--- spaces and tabs part the words
-abbrev pub is_space : ℕ → Bool
-is_space b = b == 32 || b == 9
-
 -- a word goes on there
 abbrev pub goes_on : List ℕ → Bool
 goes_on [] = false
 goes_on (b ∷ bytes) = not (is_space b)
 
--- words end at spaces and at the end of the line
+-- words are parted by spaces and tabs
 abbrev pub words_of : List ℕ → List (List ℕ)
 words_of [] = []
 words_of (b ∷ bytes) = if is_space b then words_of bytes else if goes_on bytes then before_first b (words_of bytes) else (b ∷ []) ∷ words_of bytes

@@ -1,11 +1,11 @@
 -- What the words behind `require` spell.
 use Rattle.std.specs.Prelude.{ℕ, List}
 use Rattle.std.specs.List.{flat_map}
+use Rattle.pair_structure.specs.Parts.{Names}
 use Rattle.pair_structure.specs.Role.{RoleParts}
 use Rattle.ctl_form.specs.Form.{Form}
 use Rattle.ctl_form.specs.Kind.{whole_forms}
 use Rattle.ctl_form.specs.Numbered.{IsTooLarge}
-use Rattle.formula_text.specs.Sign.{Names}
 use Rattle.formula_text.specs.Token.{tokens_of}
 use Rattle.formula_text.specs.Tree.{Spells, AreKnown, signs_of}
 
@@ -25,6 +25,6 @@ AreKnownOver a b tokens = AreKnown (signs_of a b tokens)
 abbrev pub IsUnspelled : Names → Names → List (List ℕ) → Type 0
 IsUnspelled a b tokens = (form : Form) → SpellsOver a b tokens form → ⊥
 
--- the closure of a kind over these roles with these clauses has more than 512 members
+-- the closure of a kind over these roles with these clauses has more than MAX_MEMBERS members
 abbrev pub IsClosureOver : RoleParts → RoleParts → List Form → Type 0
 IsClosureOver a b clauses = IsTooLarge (whole_forms a b clauses)

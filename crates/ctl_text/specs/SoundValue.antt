@@ -1,15 +1,16 @@
 -- What each specification keeps that is read of a text, so that its canonical text is read again.
 use Rattle.std.specs.Prelude.{ℕ, ◌≢◌, ◌<◌, ◌≤◌, List, length, All, AllPairs}
+use Rattle.interconnection.specs.declared.limits.TheConstants.{MAX_NEIGHBOURS}
+use Rattle.pair_structure.specs.Parts.{Names, role_at}
 use Rattle.pair_structure.specs.Name.{IsName}
 use Rattle.pair_structure.specs.Role.{RoleParts, IsRole}
 use Rattle.ctl_form.specs.declared.pair_spec.PairSpec.{PairSpec}
 use Rattle.ctl_form.specs.Form.{Form}
-use Rattle.ctl_form.specs.Kind.{role_at}
 use Rattle.interconnection.specs.declared.parts.Process.{Process}
 use Rattle.interconnection.specs.Graph.{degree_of}
 use Rattle.interconnection.specs.Network.{AreLawful}
 use Rattle.formula_text.specs.Canonical.{IsOver}
-use Rattle.formula_text.specs.FormulaText.{Names, formula_text}
+use Rattle.formula_text.specs.FormulaText.{formula_text}
 use Rattle.formula_text.specs.Long.{IsLong}
 use Rattle.ctl_text.specs.Required.{IsClosureOver}
 use Rattle.ctl_text.specs.SpecText.{spec_text}
@@ -56,7 +57,7 @@ pub record IsSoundValue (v : SpecParts) : Type 0 where
   pub processes : All (IsNamedProcess (length v.roles)) v.processes
   pub processes_differ : Differ (process_names v.processes)
   pub network : AreLawful v.roles (kind_ends v.kinds) v.processes v.edges
-  pub few_beside : (k : ℕ) → degree_of v.edges k ≤ 32
+  pub few_beside : (k : ℕ) → degree_of v.edges k ≤ MAX_NEIGHBOURS
 
 -- each value that some bytes are a text of has a canonical text, and that is a text of the same value
 abbrev pub CanonicalIsText : Type 0

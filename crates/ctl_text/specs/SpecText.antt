@@ -1,14 +1,14 @@
 -- The canonical text of a specification.
 use Rattle.std.specs.Prelude.{ℕ, Bool, true, false, List, [], ◌∷◌, ◌++◌, codes, map}
 use Rattle.std.specs.List.{flat_map}
+use Rattle.pair_structure.specs.Parts.{Names, name_at, role_at}
 use Rattle.pair_structure.specs.declared.side.LocalArc.{LocalArc}
 use Rattle.pair_structure.specs.Role.{RoleParts}
 use Rattle.ctl_form.specs.declared.pair_spec.PairSpec.{PairSpec}
 use Rattle.ctl_form.specs.Form.{Form}
-use Rattle.ctl_form.specs.Kind.{role_at}
 use Rattle.interconnection.specs.declared.parts.Process.{Process}
 use Rattle.interconnection.specs.declared.parts.Edge.{Edge}
-use Rattle.formula_text.specs.FormulaText.{Names, name_at, formula_text}
+use Rattle.formula_text.specs.FormulaText.{formula_text}
 use Rattle.ctl_text.specs.Item.{Said, head_line, role_line, local_line, start_line, arc_line, kind_line, end_line, process_line, edge_line, done_line, words_for}
 use Rattle.ctl_text.specs.Value.{SpecParts, kind_at, process_at}
 

@@ -12,7 +12,7 @@ use crate::item::Item;
 use crate::names::{kind_number, name_of, process_number, role_number};
 use crate::place::{Place, Reader};
 use ctl_form::{Clauses, PairSpec};
-use interconnection::{Edge, Process};
+use interconnection::{Edge, MAX_KINDS, MAX_PROCESSES, MAX_ROLES, Process};
 use pair_structure::Role;
 use std::alloc::{AllocError, Global};
 
@@ -103,7 +103,7 @@ fn process_added(
     name: &[u8],
     role: &[u8],
 ) -> Result<Reader, AllocError>
-    requires few { length reader.roles.items ≤ 16 }
+    requires few { length reader.roles.items ≤ MAX_ROLES }
     requires name { IsName name.now }
     ensures { IfOk result (λ r. state_of r ≡ after (state_of reader) (process_line name.now role.now)) }
 {
@@ -121,8 +121,8 @@ fn edge_added(
     b: &[u8],
     kind: &[u8],
 ) -> Result<Reader, AllocError>
-    requires few_kinds { length reader.kinds.items ≤ 16 }
-    requires few_processes { length reader.processes ≤ 1024 }
+    requires few_kinds { length reader.kinds.items ≤ MAX_KINDS }
+    requires few_processes { length reader.processes ≤ MAX_PROCESSES }
     ensures { IfOk result (λ r. state_of r ≡ after (state_of reader) (edge_line a.now b.now kind.now)) }
 {
     let a = process_number(&reader.processes, a) as u32;

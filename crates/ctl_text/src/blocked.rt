@@ -90,13 +90,13 @@ fn end_blocked(alloc: Global, roles: &[Role], place: &Place) -> Result<Option<Te
     match place {
         Place::InArcs { locals, arcs, .. } => Ok(role_end_cause(locals, arcs)),
         Place::InKind {
-            name,
             role_a,
             role_b,
             clauses,
+            ..
         } => {
             let (a, b) = (&roles[*role_a as usize], &roles[*role_b as usize]);
-            if is_closure_over(alloc, a, b, name, clauses)? {
+            if is_closure_over(alloc, a, b, clauses)? {
                 return Ok(Some(TextCause::ClosureOver));
             }
             Ok(None)

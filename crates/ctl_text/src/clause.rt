@@ -1,6 +1,6 @@
 ghost use Rattle.std.specs.Prelude.{◌≡◌, ◌↔◌, ◌≤◌, ◌∷◌, IsTrue, IfOk, IfErr, length, map, codes};
 ghost use Rattle.ctl_form.specs.Form.{form_of};
-ghost use Rattle.ctl_form.specs.Kind.{role_at};
+ghost use Rattle.pair_structure.specs.Parts.{role_at};
 ghost use Rattle.text_cause.specs.Answers.{IsBadBy};
 ghost use Rattle.ctl_text.specs.inside.Judged.{IsTakenAs, IsClauseOf, IsSpelledOver, SpellingStands};
 ghost use Rattle.formula_text.specs.Long.{IsLong};
@@ -14,7 +14,7 @@ use crate::grown::with_form;
 use crate::place::{Place, Reader};
 use ctl_form::Formula;
 use formula_text::{FormulaFault, is_long, read_formula, tokens_of};
-use pair_structure::{Memory, Name, Role};
+use pair_structure::{MAX_LOCALS, Memory, Name, Role};
 use std::alloc::{AllocError, Global};
 use text_cause::{LineFault, TextCause};
 
@@ -61,7 +61,7 @@ fn clause_of(alloc: Global, reader: &Reader, words: &[&[u8]]) -> Result<Formula,
 /// The names of the local states of a role by its number, and none past the end.
 fn locals_at(roles: &[Role], n: u8) -> &[Name]
     ensures locals { result.now ≡ (role_at roles.now n).locals }
-    ensures few { length result.now ≤ 32 }
+    ensures few { length result.now ≤ MAX_LOCALS }
 {
     match roles.get(n as usize) {
         Some(role) => role.locals(),
@@ -76,8 +76,8 @@ fn spelled_over(
     b: &[Name],
     words: &[&[u8]],
 ) -> Result<Formula, LineFault>
-    requires few_a { length a.now ≤ 32 }
-    requires few_b { length b.now ≤ 32 }
+    requires few_a { length a.now ≤ MAX_LOCALS }
+    requires few_b { length b.now ≤ MAX_LOCALS }
     ensures spelled { IfOk result (λ f. IsSpelledOver a.now b.now (tokens_in (map (λ w. w.now) words.now)) (form_of f)) }
     ensures refused { IfErr result (IsBadBy (SpellingStands a.now b.now (tokens_in (map (λ w. w.now) words.now)))) }
 {
@@ -95,8 +95,8 @@ fn formula_over(
     b: &[Name],
     tokens: &[&[u8]],
 ) -> Result<Formula, LineFault>
-    requires few_a { length a.now ≤ 32 }
-    requires few_b { length b.now ≤ 32 }
+    requires few_a { length a.now ≤ MAX_LOCALS }
+    requires few_b { length b.now ≤ MAX_LOCALS }
     ensures spelled { IfOk result (λ f. IsSpelledOver a.now b.now (map (λ t. t.now) tokens.now) (form_of f)) }
     ensures refused { IfErr result (IsBadBy (SpellingStands a.now b.now (map (λ t. t.now) tokens.now))) }
 {

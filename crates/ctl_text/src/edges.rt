@@ -2,8 +2,8 @@ ghost use Rattle.std.specs.Prelude.{◌≡◌, ◌↔◌, ◌≤◌, ◌++◌, �
 ghost use Rattle.interconnection.specs.Graph.{degree_of};
 ghost use Rattle.ctl_text.specs.Value.{AreJoined};
 
-use crate::beside::Beside;
-use interconnection::Edge;
+use interconnection::{Edge, MAX_NEIGHBOURS};
+use pair_structure::Lists;
 use std::alloc::{AllocError, Global};
 use std::marker::Model;
 
@@ -11,7 +11,7 @@ use std::marker::Model;
 #[derive(Drop)]
 pub(crate) struct Edges {
     list: Vec<Edge>,
-    beside: Beside,
+    beside: Lists<u32>,
 }
 
 impl Model for Edges {
@@ -32,7 +32,7 @@ impl Edges {
     {
         Edges {
             list: Vec::new(alloc),
-            beside: Beside::new(alloc),
+            beside: Lists::new(alloc),
         }
     }
 
@@ -45,11 +45,11 @@ impl Edges {
             mut beside,
         } = self;
         list.push(edge)?;
-        beside.push(alloc, edge.a, edge.b)?;
+        beside.push(alloc, edge.a as usize, edge.b)?;
         if edge.a == edge.b {
             return Ok(Edges { list, beside });
         }
-        beside.push(alloc, edge.b, edge.a)?;
+        beside.push(alloc, edge.b as usize, edge.a)?;
         Ok(Edges { list, beside })
     }
 
@@ -63,14 +63,14 @@ impl Edges {
     pub(crate) fn are_joined(&self, p: u32, q: u32) -> bool
         ensures { IsTrue result ↔ AreJoined self.now p q }
     {
-        has(self.beside.list(p), q)
+        has(self.beside.list(p as usize), q)
     }
 
-    /// Whether the process has 32 edges.
+    /// Whether the process has `MAX_NEIGHBOURS` edges.
     pub(crate) fn is_full(&self, process: u32) -> bool
-        ensures { IsTrue result ↔ (32 ≤ degree_of self.now process) }
+        ensures { IsTrue result ↔ (MAX_NEIGHBOURS ≤ degree_of self.now process) }
     {
-        self.beside.list(process).len() >= 32
+        self.beside.list(process as usize).len() >= MAX_NEIGHBOURS
     }
 }
 

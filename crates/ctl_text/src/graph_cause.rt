@@ -8,13 +8,9 @@ use crate::edges::Edges;
 use crate::names::{has_kind, has_process, has_role, kind_number, process_number};
 use crate::processes::Processes;
 use ctl_form::PairSpec;
-use interconnection::Process;
+use interconnection::{MAX_KINDS, MAX_PROCESSES, Process};
 use pair_structure::Role;
 use text_cause::TextCause;
-
-const MAX_KINDS: usize = 16;
-
-const MAX_PROCESSES: usize = 1024;
 
 /// What stands against a kind of this name over these roles.
 pub(crate) fn kind_cause(
@@ -37,14 +33,16 @@ pub(crate) fn kind_cause(
 }
 
 fn kind_name_cause(kinds: &[PairSpec], name: &[u8]) -> Option<TextCause>
-    ensures some { IfSome result (IsLowest (NameStands (kind_names kinds.now) 16 name.now)) }
-    ensures none { IfNone result (IsFree (NameStands (kind_names kinds.now) 16 name.now)) }
+    ensures some { IfSome result (IsLowest (NameStands (kind_names kinds.now) MAX_KINDS name.now)) }
+    ensures none { IfNone result (IsFree (NameStands (kind_names kinds.now) MAX_KINDS name.now)) }
 {
     if has_kind(kinds, name) {
         return Some(TextCause::Twice);
     }
     if kinds.len() >= MAX_KINDS {
-        return Some(TextCause::TooMany { limit: 16 });
+        return Some(TextCause::TooMany {
+            limit: MAX_KINDS as u32,
+        });
     }
     None
 }
@@ -66,14 +64,16 @@ pub(crate) fn process_cause(
 }
 
 fn process_name_cause(processes: &Processes, name: &[u8]) -> Option<TextCause>
-    ensures some { IfSome result (IsLowest (NameStands (process_names processes.now) 1024 name.now)) }
-    ensures none { IfNone result (IsFree (NameStands (process_names processes.now) 1024 name.now)) }
+    ensures some { IfSome result (IsLowest (NameStands (process_names processes.now) MAX_PROCESSES name.now)) }
+    ensures none { IfNone result (IsFree (NameStands (process_names processes.now) MAX_PROCESSES name.now)) }
 {
     if has_process(processes, name) {
         return Some(TextCause::Twice);
     }
     if processes.as_slice().len() >= MAX_PROCESSES {
-        return Some(TextCause::TooMany { limit: 1024 });
+        return Some(TextCause::TooMany {
+            limit: MAX_PROCESSES as u32,
+        });
     }
     None
 }
@@ -87,7 +87,7 @@ pub(crate) fn edge_cause(
     q: &[u8],
     kind: &[u8],
 ) -> Option<TextCause>
-    requires { length processes.now ≤ 1024 }
+    requires { length processes.now ≤ MAX_PROCESSES }
     ensures some { IfSome result (IsLowest (EdgeStands processes.now kinds.now edges.now p.now q.now kind.now)) }
     ensures none { IfNone result (IsFree (EdgeStands processes.now kinds.now edges.now p.now q.now kind.now)) }
 {
@@ -132,7 +132,7 @@ fn join_cause(
     None
 }
 
-/// Of the two processes the lower one that has 32 edges.
+/// Of the two processes the lower one that has `MAX_NEIGHBOURS` edges.
 fn crowded(edges: &Edges, p: u32, q: u32) -> Option<u32>
     ensures some { IfSome result (IsFirstCrowded edges.now p q) }
     ensures none { IfNone result ((k : ℕ) → IsCrowded edges.now p q k → ⊥) }

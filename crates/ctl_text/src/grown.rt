@@ -11,6 +11,7 @@ ghost use Rattle.ctl_text.specs.inside.View.{group_of};
 use crate::names::{local_number, name_of, role_number};
 use crate::place::Place;
 use ctl_form::Formula;
+use interconnection::MAX_ROLES;
 use pair_structure::{LocalArc, Role};
 use std::alloc::{AllocError, Global};
 
@@ -97,7 +98,7 @@ pub(crate) fn opened_kind(
     a: &[u8],
     b: &[u8],
 ) -> Result<Place, AllocError>
-    requires few { length roles.now ≤ 16 }
+    requires few { length roles.now ≤ MAX_ROLES }
     requires name { IsName name.now }
     ensures { IfOk result (λ p. group_of p ≡ opened_kind roles.now name.now a.now b.now) }
 {

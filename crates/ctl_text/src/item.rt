@@ -1,10 +1,12 @@
 ghost use Rattle.std.specs.Prelude.{◌≡◌, ◌↔◌, IsTrue, IfSome, IfNone, map, ◌∷◌, [], Some};
 ghost use Rattle.std.specs.Option.{option_map};
-ghost use Rattle.pair_structure.specs.Name.{IsName, is_name_byte};
+ghost use Rattle.pair_structure.specs.Name.{IsName};
 ghost use Rattle.ctl_text.specs.Item.{Said, IsSpelled, Says};
 ghost use Rattle.ctl_text.specs.inside.ItemReading.{item_at, one_at, two_at, three_at, four_at};
 ghost use Rattle.ctl_text.specs.Lines.{IsRequire};
 ghost use Rattle.ctl_text.specs.inside.View.{said};
+
+use pair_structure::is_name;
 
 /// What a line says that is not passed over and requires no clause.
 #[derive(Clone, Copy, Debug)]
@@ -144,21 +146,4 @@ fn is_spelled(item: Item<'_>) -> bool
         Item::Process { name, role } => is_name(name) && is_name(role),
         Item::Edge { a, b, kind } => is_name(a) && is_name(b) && is_name(kind),
     }
-}
-
-fn is_name(bytes: &[u8]) -> bool
-    ensures { IsTrue result ↔ IsName bytes.now }
-{
-    match bytes {
-        [] => false,
-        [first, rest @ ..] => {
-            first.is_ascii_alphabetic() && rest.len() <= 15 && rest.iter().all(|b| is_name_byte(*b))
-        }
-    }
-}
-
-fn is_name_byte(b: u8) -> bool
-    ensures { result ≡ is_name_byte b }
-{
-    b.is_ascii_alphanumeric() || b == b'_'
 }

@@ -2,7 +2,6 @@
 #![tactic(auto)]
 
 mod added;
-mod beside;
 mod blocked;
 mod clause;
 mod closure_count;

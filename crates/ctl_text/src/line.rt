@@ -1,6 +1,8 @@
 ghost use Rattle.std.specs.Prelude.{◌≡◌, ◌↔◌, ◌<◌, IsTrue, IfOk, All, map, ◌∷◌, [], length, true, position, IfSome, IfNone, ◌==◌, not};
-ghost use Rattle.ctl_text.specs.Lines.{lines_of, words_of, is_space, is_text_byte, goes_on, IsText, IsComment, ArePassed};
+ghost use Rattle.formula_text.specs.Token.{is_space};
+ghost use Rattle.ctl_text.specs.Lines.{lines_of, words_of, is_text_byte, goes_on, IsText, IsComment, ArePassed};
 
+use formula_text::is_space;
 use std::alloc::{AllocError, Global};
 
 /// The first line, and what stands behind it. Linear in the line.
@@ -71,12 +73,6 @@ fn word_end(bytes: &[u8]) -> Option<usize>
     ensures within { IfSome result (λ n. n < length bytes.now) }
 {
     bytes.iter().position(|b| is_space(*b))
-}
-
-fn is_space(b: u8) -> bool
-    ensures { result ≡ is_space b }
-{
-    b == b' ' || b == b'\t'
 }
 
 /// Whether each byte of the line is allowed.

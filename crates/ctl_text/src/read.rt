@@ -19,7 +19,7 @@ use crate::processes::Processes;
 use crate::spec::Spec;
 use crate::take::take_line;
 use ctl_form::PairSpec;
-use interconnection::{Edge, Network, NetworkFault, Process};
+use interconnection::{Edge, MAX_NEIGHBOURS, Network, NetworkFault, Process};
 use pair_structure::{Memory, Role};
 use std::alloc::Global;
 use text_cause::{LineFault, TextCause, TextFault};
@@ -109,7 +109,7 @@ fn made_of(
     edges: Vec<Edge>,
 ) -> Result<Made, Memory>
     requires lawful { AreLawful roles.items (kind_ends kinds.items) processes.items edges.items }
-    requires few { (k : ℕ) → degree_of edges.items k ≤ 32 }
+    requires few { (k : ℕ) → degree_of edges.items k ≤ MAX_NEIGHBOURS }
     ensures made { IfOk result (λ made. value_of made ≡ record { roles = roles.items; kinds = kinds.items; processes = processes.items; edges = edges.items }) }
     ensures ends { IfOk result HasEnds }
 {

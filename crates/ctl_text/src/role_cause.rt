@@ -6,39 +6,38 @@ ghost use Rattle.ctl_text.specs.Cause.{UseStands};
 ghost use Rattle.ctl_text.specs.inside.LineCause.{NameStands, ArcStands, RoleEndStands};
 
 use crate::names::{has_local, has_role, local_number};
-use pair_structure::{LocalArc, Name, Role};
+use interconnection::MAX_ROLES;
+use pair_structure::{LocalArc, MAX_ARCS, MAX_LOCALS, Name, Role};
 use text_cause::TextCause;
-
-const MAX_ROLES: usize = 16;
-
-const MAX_LOCALS: usize = 32;
-
-const MAX_ARCS: usize = 128;
 
 /// What stands against a role of this name.
 pub(crate) fn role_cause(roles: &[Role], name: &[u8]) -> Option<TextCause>
-    ensures some { IfSome result (IsLowest (NameStands (role_names roles.now) 16 name.now)) }
-    ensures none { IfNone result (IsFree (NameStands (role_names roles.now) 16 name.now)) }
+    ensures some { IfSome result (IsLowest (NameStands (role_names roles.now) MAX_ROLES name.now)) }
+    ensures none { IfNone result (IsFree (NameStands (role_names roles.now) MAX_ROLES name.now)) }
 {
     if has_role(roles, name) {
         return Some(TextCause::Twice);
     }
     if roles.len() >= MAX_ROLES {
-        return Some(TextCause::TooMany { limit: 16 });
+        return Some(TextCause::TooMany {
+            limit: MAX_ROLES as u32,
+        });
     }
     None
 }
 
 /// What stands against a local state of this name.
 pub(crate) fn local_cause(names: &[Name], name: &[u8]) -> Option<TextCause>
-    ensures some { IfSome result (IsLowest (NameStands names.now 32 name.now)) }
-    ensures none { IfNone result (IsFree (NameStands names.now 32 name.now)) }
+    ensures some { IfSome result (IsLowest (NameStands names.now MAX_LOCALS name.now)) }
+    ensures none { IfNone result (IsFree (NameStands names.now MAX_LOCALS name.now)) }
 {
     if has_local(names, name) {
         return Some(TextCause::Twice);
     }
     if names.len() >= MAX_LOCALS {
-        return Some(TextCause::TooMany { limit: 32 });
+        return Some(TextCause::TooMany {
+            limit: MAX_LOCALS as u32,
+        });
     }
     None
 }
@@ -77,7 +76,9 @@ pub(crate) fn arc_cause(
         return Some(TextCause::SelfArc);
     }
     if arcs.len() >= MAX_ARCS {
-        return Some(TextCause::TooMany { limit: 128 });
+        return Some(TextCause::TooMany {
+            limit: MAX_ARCS as u32,
+        });
     }
     None
 }
@@ -91,7 +92,7 @@ fn has_arc(arcs: &[LocalArc], from: usize, to: usize) -> bool
 
 /// What stands against the end of a role.
 pub(crate) fn role_end_cause(names: &[Name], arcs: &[LocalArc]) -> Option<TextCause>
-    requires { length names.now ≤ 32 }
+    requires { length names.now ≤ MAX_LOCALS }
     ensures some { IfSome result (IsLowest (RoleEndStands names.now arcs.now)) }
     ensures none { IfNone result (IsFree (RoleEndStands names.now arcs.now)) }
 {

@@ -1,8 +1,7 @@
 ghost use Rattle.std.specs.Prelude.{◌≡◌, ◌++◌, OnOk, OnErr, map};
 ghost use Rattle.std.specs.List.{flat_map};
+ghost use Rattle.pair_structure.specs.Parts.{name_at, role_at};
 ghost use Rattle.ctl_form.specs.Form.{form_of};
-ghost use Rattle.ctl_form.specs.Kind.{role_at};
-ghost use Rattle.formula_text.specs.FormulaText.{name_at};
 ghost use Rattle.ctl_text.specs.Item.{head_line, role_line, start_line, kind_line, end_line, done_line};
 ghost use Rattle.ctl_text.specs.SpecText.{line_for, ended, local_text, arc_text, free_text, role_text, require_text, kind_lines_over, kind_text, process_text, edge_text, spec_text};
 ghost use Rattle.ctl_text.specs.Text.{IsSpecText};

@@ -1,13 +1,13 @@
 -- The canonical text of a formula is a spelling of it.
 use Rattle.std.proofs.Common.{ℕ, ◌≡◌, true, List, [], ◌∷◌, ◌++◌, refl, sym, ap, ◌∙◌, arith, subst, append-nil}
 use Rattle.std.proofs.lemmas.List.Folds.{list_all-append}
+use Rattle.pair_structure.specs.Parts.{Names}
 use Rattle.ctl_form.specs.Form.{Form, truth, falsity, at, neg, both, either, implies, next, always, sometime, until}
 use Rattle.formula_text.specs.declared.sign.Mark.TheVariants.{And, Or, Arrow, Close, Right}
 use Rattle.formula_text.specs.declared.sign.Sign.{Sign}
 use Rattle.formula_text.specs.declared.sign.Sign.TheVariants.{Behind, Until}
 use Rattle.formula_text.specs.Canonical.{AreNames, IsOver, CanonicalIsFormula}
 use Rattle.formula_text.specs.FormulaText.{formula_text}
-use Rattle.formula_text.specs.Sign.{Names}
 use Rattle.formula_text.specs.Token.{tokens_of}
 use Rattle.formula_text.specs.Tree.{signs, signs_of, Fits, tree_form, is_known, AreKnown}
 use Rattle.formula_text.proofs.CanonicalSigns.{tree_of, text_says}

@@ -3,7 +3,8 @@ use Rattle.std.proofs.Common.{ℕ, ◌≡◌, ◌<◌, Bool, true, false, ◌&&�
 use Rattle.std.proofs.lemmas.Bool.Decides.{nat_tests}
 use Rattle.std.specs.Char.{is_ascii_alphabetic}
 use Rattle.std.specs.List.{list_all}
-use Rattle.pair_structure.specs.Name.{is_name_byte}
+use Rattle.pair_structure.specs.Parts.{Names, name_at}
+use Rattle.pair_structure.specs.Name.{is_name_byte, is_name}
 use Rattle.pair_structure.specs.declared.side.Side.{Side}
 use Rattle.pair_structure.specs.declared.side.Side.TheVariants.{A, B}
 use Rattle.ctl_form.specs.Form.{Form, truth, falsity, at, neg, both, either, implies, next, always, sometime, until}
@@ -14,10 +15,11 @@ use Rattle.formula_text.specs.declared.sign.Prefix.TheVariants.{Not, Next, Alway
 use Rattle.formula_text.specs.declared.sign.Sign.{Sign}
 use Rattle.formula_text.specs.declared.sign.Sign.TheVariants.{Alone, Before, Open, Behind, Path, Until}
 use Rattle.formula_text.specs.Canonical.{AreNames, IsOver}
-use Rattle.formula_text.specs.FormulaText.{formula_text, name_at, path_letter, side_letters, until_letter}
-use Rattle.formula_text.specs.Sign.{Names, sign_of, is_name}
-use Rattle.formula_text.specs.Token.{tokens_of, is_gap, is_word_byte, are_joined}
+use Rattle.formula_text.specs.FormulaText.{formula_text, path_letter, side_letters, until_letter}
+use Rattle.formula_text.specs.Sign.{sign_of}
+use Rattle.formula_text.specs.Token.{tokens_of, is_space, is_word_byte, are_joined}
 use Rattle.formula_text.specs.Tree.{Tree, leaf, prefixed, grouped, conjunction, disjunction, implication, waits, signs, signs_of}
+use Rattle.formula_text.proofs.Tests.{both_true}
 
 -- the spelling that the canonical text is
 abbrev pub tree_of : Form → Tree
@@ -46,7 +48,7 @@ abbrev IsApart : List ℕ → Type 0
 IsApart [] = Unit {0}
 IsApart (c ∷ rest) = is_word_byte c ≡ false
 
-word_no_gap : (b : ℕ) → is_word_byte b ≡ true → is_gap b ≡ false
+word_no_gap : (b : ℕ) → is_word_byte b ≡ true → is_space b ≡ false
 word_no_gap b e = grind (arith, nat_tests)
 
 words_join : (b c : ℕ) → is_word_byte b ≡ true → is_word_byte c ≡ true → are_joined b c ≡ true
@@ -70,13 +72,9 @@ said_word : (a b : Names) (x : ℕ) (w rest : List ℕ) → AreWords (x ∷ w) �
 said_word a b x w rest words apart = ap (map (sign_of a b)) (word_token x w rest words apart)
 
 -- a byte that joins nothing is a token
-lone : (a b : Names) (c : ℕ) (rest : List ℕ) → is_gap c ≡ false → ((d : ℕ) → are_joined c d ≡ false) → said a b (c ∷ rest) ≡ sign_of a b (c ∷ []) ∷ said a b rest
+lone : (a b : Names) (c : ℕ) (rest : List ℕ) → is_space c ≡ false → ((d : ℕ) → are_joined c d ≡ false) → said a b (c ∷ rest) ≡ sign_of a b (c ∷ []) ∷ said a b rest
 lone a b c [] gap apart = rw gap refl
 lone a b c (d ∷ rest) gap apart = let joined = apart d in rw (gap, joined) refl
-
-both_true : (s t : Bool) → (s && t) ≡ true → (s ≡ true) × (t ≡ true)
-both_true true t e = (refl, e)
-both_true false t e = cc
 
 letter_word : (b : ℕ) → is_ascii_alphabetic b ≡ true → is_word_byte b ≡ true
 letter_word b e = grind (arith, nat_tests)

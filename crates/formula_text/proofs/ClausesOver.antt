@@ -1,5 +1,6 @@
 -- A formula in whose spelling each name is known is over the local states of the two sides.
-use Rattle.std.proofs.Common.{ℕ, ◌≡◌, ◌<◌, Bool, true, false, ◌&&◌, Option, Some, None, List, [], ◌∷◌, ◌++◌, length, refl, subst}
+use Rattle.std.proofs.Common.{ℕ, ◌≡◌, ◌<◌, true, Option, Some, None, List, [], ◌∷◌, ◌++◌, length, refl, subst}
+use Rattle.pair_structure.specs.Parts.{Names}
 use Rattle.pair_structure.specs.declared.side.Side.TheVariants.{A, B}
 use Rattle.ctl_form.specs.Form.{Form}
 use Rattle.formula_text.specs.declared.sign.Leaf.{Leaf}
@@ -9,9 +10,10 @@ use Rattle.formula_text.specs.declared.sign.Prefix.TheVariants.{Not, Next, Alway
 use Rattle.formula_text.specs.declared.sign.Sign.{Sign}
 use Rattle.formula_text.specs.declared.sign.Sign.TheVariants.{Alone, Behind, Until}
 use Rattle.formula_text.specs.Canonical.{IsOver}
-use Rattle.formula_text.specs.Sign.{Names, behind_dot, word_sign, sign_of, atom_or, number_of}
+use Rattle.formula_text.specs.Sign.{behind_dot, word_sign, sign_of, atom_or, number_of}
 use Rattle.formula_text.specs.Tree.{Tree, leaf, prefixed, grouped, conjunction, disjunction, implication, waits, signs, signs_of, tree_form, is_known, is_known_leaf, AreKnown, Spells}
 use Rattle.formula_text.proofs.SignRows.{word_kept, atom_or_kept, number_below}
+use Rattle.formula_text.proofs.Tests.{both_true}
 
 -- an atom is one of its side's local states
 abbrev LeafOver : Names → Names → Leaf → Type 0
@@ -47,10 +49,6 @@ sign_over a b token =
     (word_kept (IfKnown a b) token (λ k. tt) (λ all rest. (λ h k. tt, (λ h k. tt, (λ h k. tt, (λ h k. tt, (λ h k. tt, (λ h k. tt, tt)))))))
     (λ h k. tt, (λ h k. tt, (λ h k. tt, (λ h k. tt, (λ h k. tt, (λ h k. tt, tt))))))
     (λ h k. tt, (λ h k. tt, (λ h k. tt, (λ h k. tt, (λ h k. tt, (λ h k. tt, tt))))))))
-
-both_true : (s t : Bool) → (s && t) ≡ true → (s ≡ true) × (t ≡ true)
-both_true true t e = (refl, e)
-both_true false t e = cc
 
 each_known : (a b : Names) (tokens : List (List ℕ)) → AreKnown (signs_of a b tokens) → EachOver a b (signs_of a b tokens)
 each_known a b [] known = tt

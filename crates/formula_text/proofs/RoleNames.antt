@@ -7,10 +7,9 @@ use Rattle.std.proofs.lemmas.Slice.Eq.{bytes_eq-Decides}
 use Rattle.std.specs.Char.{is_ascii_alphabetic}
 use Rattle.std.specs.List.{list_all}
 use Rattle.std.specs.Str.{bytes_eq}
-use Rattle.pair_structure.specs.Name.{IsName, is_name_byte}
+use Rattle.pair_structure.specs.Parts.{Names, name_at}
+use Rattle.pair_structure.specs.Name.{IsName, is_name_byte, is_name}
 use Rattle.formula_text.specs.Canonical.{AreNames}
-use Rattle.formula_text.specs.FormulaText.{name_at}
-use Rattle.formula_text.specs.Sign.{Names, is_name}
 
 spelled : (name : List ℕ) → IsName name → is_name name ≡ true
 spelled [] e = absurd e

@@ -2,11 +2,13 @@
 use Rattle.std.proofs.Common.{ℕ, ◌≡◌, ◌<◌, Bool, true, false, cond, ◌==◌, Option, Some, None, List, [], ◌∷◌, length, refl}
 use Rattle.std.proofs.lemmas.List.Quantifiers.{position-Some}
 use Rattle.std.specs.Str.{bytes_eq}
+use Rattle.pair_structure.specs.Name.{is_name}
+use Rattle.pair_structure.specs.Parts.{Names}
 use Rattle.pair_structure.specs.declared.side.Side.{Side}
 use Rattle.formula_text.specs.declared.sign.Leaf.TheVariants.{At}
 use Rattle.formula_text.specs.declared.sign.Sign.{Sign}
 use Rattle.formula_text.specs.declared.sign.Sign.TheVariants.{Alone, Other}
-use Rattle.formula_text.specs.Sign.{Names, path_words, words, marks, said_in, word_sign, is_name, number_of, atom_sign, atom_or}
+use Rattle.formula_text.specs.Sign.{path_words, words, marks, said_in, word_sign, number_of, atom_sign, atom_or}
 
 -- where the token is that of a row, the row's sign keeps it
 abbrev pub RowsKeep : (Sign → Type 0) → List ℕ → List (List ℕ × Sign) → Type 0

@@ -1,65 +1,47 @@
 -- How bytes are cut into tokens, from the first byte on.
-use Rattle.std.proofs.Common.{ℕ, zero, suc, ◌≡◌, ◌<◌, ◌≤◌, ◌+◌, ◌-◌, Bool, true, false, not, List, [], ◌∷◌, nat_lt, length, get_or, take, drop, refl, arith, position, Some, None, cond, ap, ◌∙◌, subst, inl, inr, map, ◌++◌, sym, append_assoc}
+use Rattle.std.proofs.Common.{ℕ, zero, suc, ◌≡◌, ◌<◌, ◌≤◌, ◌+◌, ◌-◌, true, false, not, List, [], ◌∷◌, length, get_or, take, drop, refl, arith, position, Some, None, ap, ◌∙◌, subst, inl, inr, map, ◌++◌, sym, append_assoc}
 use Rattle.std.proofs.lemmas.Bool.{cases_lt}
 use Rattle.std.proofs.lemmas.Bool.Decides.{nat_tests}
 use Rattle.std.proofs.lemmas.List.Quantifiers.{position-Some}
-use Rattle.std.proofs.lemmas.List.Sums.{fails_before_first}
-use Rattle.std.specs.List.{flat_map, position_or_len}
-use Rattle.formula_text.specs.Token.{tokens_of, is_gap, are_joined}
+use Rattle.std.specs.List.{flat_map}
+use Rattle.formula_text.proofs.Tests.{none_passes, passed, failed}
+use Rattle.formula_text.specs.Token.{tokens_of, is_space, are_joined}
 
-chosen_none : (b : Bool) (n : ℕ) → cond b (Some n) None ≡ None → b ≡ false
-chosen_none true n e = cc
-chosen_none false n e = refl
-
-none_passes : (p : ℕ → Bool) (xs : List ℕ) → position p xs ≡ None → (k : ℕ) → k < length xs → p (get_or xs k 0) ≡ false
-none_passes p xs e k lt =
-    let far : nat_lt (position_or_len p xs) (length xs) ≡ false = chosen_none (nat_lt (position_or_len p xs) (length xs)) (position_or_len p xs) e in
-    let past : length xs ≤ position_or_len p xs = grind (arith, nat_tests) in
-    fails_before_first p xs k 0 (omega arith)
-
-passed : (t : Bool) → not t ≡ false → t ≡ true
-passed true e = refl
-passed false e = cc
-
-failed : (t : Bool) → not t ≡ true → t ≡ false
-failed false e = refl
-failed true e = cc
-
-gaps_before : (bytes : List ℕ) (n : ℕ) → n ≤ length bytes → ((k : ℕ) → k < n → not (is_gap (get_or bytes k 0)) ≡ false) → tokens_of bytes ≡ tokens_of (drop n bytes)
+gaps_before : (bytes : List ℕ) (n : ℕ) → n ≤ length bytes → ((k : ℕ) → k < n → not (is_space (get_or bytes k 0)) ≡ false) → tokens_of bytes ≡ tokens_of (drop n bytes)
 gaps_before bytes zero lt before = refl
 gaps_before [] (suc n) lt before = refl
 gaps_before (b ∷ bytes) (suc n) lt before =
-    let first : is_gap b ≡ true = passed (is_gap b) (before 0 (omega arith)) in
+    let first : is_space b ≡ true = passed (is_space b) (before 0 (omega arith)) in
     rw first (gaps_before bytes n (omega arith) (λ k h. before (suc k) (omega arith)))
 
 -- the tokens are those from the first byte on that is no gap
-pub tokens_from : (bytes : List ℕ) (n : ℕ) → position (λ b. not (is_gap b)) bytes ≡ Some n → tokens_of bytes ≡ tokens_of (drop n bytes)
-tokens_from bytes n e = let p = position-Some (λ b. not (is_gap b)) bytes n 0 e in gaps_before bytes n (omega arith) p.2
+pub tokens_from : (bytes : List ℕ) (n : ℕ) → position (λ b. not (is_space b)) bytes ≡ Some n → tokens_of bytes ≡ tokens_of (drop n bytes)
+tokens_from bytes n e = let p = position-Some (λ b. not (is_space b)) bytes n 0 e in gaps_before bytes n (omega arith) p.2
 
-gaps_only : (bytes : List ℕ) → ((k : ℕ) → k < length bytes → not (is_gap (get_or bytes k 0)) ≡ false) → tokens_of bytes ≡ []
+gaps_only : (bytes : List ℕ) → ((k : ℕ) → k < length bytes → not (is_space (get_or bytes k 0)) ≡ false) → tokens_of bytes ≡ []
 gaps_only [] all = refl
 gaps_only (b ∷ bytes) all =
-    let first : is_gap b ≡ true = passed (is_gap b) (all 0 (omega arith)) in
+    let first : is_space b ≡ true = passed (is_space b) (all 0 (omega arith)) in
     rw first (gaps_only bytes (λ k h. all (suc k) (omega arith)))
 
-pub no_tokens : (bytes : List ℕ) → position (λ b. not (is_gap b)) bytes ≡ None → tokens_of bytes ≡ []
-no_tokens bytes e = gaps_only bytes (none_passes (λ b. not (is_gap b)) bytes e)
+pub no_tokens : (bytes : List ℕ) → position (λ b. not (is_space b)) bytes ≡ None → tokens_of bytes ≡ []
+no_tokens bytes e = gaps_only bytes (none_passes (λ b. not (is_space b)) bytes e)
 
-begins_there : (bytes : List ℕ) (n : ℕ) → n < length bytes → not (is_gap (get_or bytes n 0)) ≡ true → (0 < length (drop n bytes)) × (is_gap (get_or (drop n bytes) 0 0) ≡ false)
+begins_there : (bytes : List ℕ) (n : ℕ) → n < length bytes → not (is_space (get_or bytes n 0)) ≡ true → (0 < length (drop n bytes)) × (is_space (get_or (drop n bytes) 0 0) ≡ false)
 begins_there [] n lt e = absurd (omega arith)
-begins_there (b ∷ bytes) zero lt e = (omega arith, failed (is_gap b) e)
+begins_there (b ∷ bytes) zero lt e = (omega arith, failed (is_space b) e)
 begins_there (b ∷ bytes) (suc n) lt e = begins_there bytes n (omega arith) e
 
 -- a token begins where a byte that is no gap is found
-pub token_begins : (bytes : List ℕ) (n : ℕ) → position (λ b. not (is_gap b)) bytes ≡ Some n → (0 < length (drop n bytes)) × (is_gap (get_or (drop n bytes) 0 0) ≡ false)
-token_begins bytes n e = let p = position-Some (λ b. not (is_gap b)) bytes n 0 e in begins_there bytes n p.0 p.1
+pub token_begins : (bytes : List ℕ) (n : ℕ) → position (λ b. not (is_space b)) bytes ≡ Some n → (0 < length (drop n bytes)) × (is_space (get_or (drop n bytes) 0 0) ≡ false)
+token_begins bytes n e = let p = position-Some (λ b. not (is_space b)) bytes n 0 e in begins_there bytes n p.0 p.1
 
 -- a gap is in no token
-joined_no_gap : (b c : ℕ) → are_joined b c ≡ true → is_gap c ≡ false
+joined_no_gap : (b c : ℕ) → are_joined b c ≡ true → is_space c ≡ false
 joined_no_gap b c e = grind (arith, nat_tests)
 
 -- the token goes on as long as neighbours are joined
-pub token_cut : (bytes : List ℕ) (n : ℕ) → suc n ≤ length bytes → is_gap (get_or bytes 0 0) ≡ false → ((k : ℕ) → k < n → are_joined (get_or bytes k 0) (get_or bytes (suc k) 0) ≡ true)
+pub token_cut : (bytes : List ℕ) (n : ℕ) → suc n ≤ length bytes → is_space (get_or bytes 0 0) ≡ false → ((k : ℕ) → k < n → are_joined (get_or bytes k 0) (get_or bytes (suc k) 0) ≡ true)
     → (suc n < length bytes → are_joined (get_or bytes n 0) (get_or bytes (suc n) 0) ≡ false) → tokens_of bytes ≡ take (suc n) bytes ∷ tokens_of (drop (suc n) bytes)
 token_cut [] n le first joined ends = absurd (omega arith)
 token_cut (b ∷ []) zero le first joined ends = rw first refl
@@ -70,7 +52,7 @@ token_cut (b ∷ c ∷ bytes) (suc n) le first joined ends =
     let rest = token_cut (c ∷ bytes) n (omega arith) (joined_no_gap b c one) (λ k h. joined (suc k) (omega arith)) (λ h. ends (omega arith)) in
     rw (first, one, rest) refl
 
-pub token_cut_at : (bytes : List ℕ) (n : ℕ) → 0 < n → n ≤ length bytes → is_gap (get_or bytes 0 0) ≡ false → ((k : ℕ) → k + 1 < n → are_joined (get_or bytes k 0) (get_or bytes (k + 1) 0) ≡ true)
+pub token_cut_at : (bytes : List ℕ) (n : ℕ) → 0 < n → n ≤ length bytes → is_space (get_or bytes 0 0) ≡ false → ((k : ℕ) → k + 1 < n → are_joined (get_or bytes k 0) (get_or bytes (k + 1) 0) ≡ true)
     → (n < length bytes → are_joined (get_or bytes (n - 1) 0) (get_or bytes n 0) ≡ false) → tokens_of bytes ≡ take n bytes ∷ tokens_of (drop n bytes)
 token_cut_at bytes zero some le first joined ends = absurd (omega arith)
 token_cut_at bytes (suc n) some le first joined ends =

@@ -4,6 +4,7 @@ use Rattle.std.proofs.lemmas.Bool.{cases_lt}
 use Rattle.std.proofs.lemmas.List.Sums.{sum_by-cons}
 use Rattle.std.proofs.lemmas.Slice.Eq.{bytes_eq-Decides}
 use Rattle.std.specs.List.{count_by}
+use Rattle.pair_structure.specs.Parts.{Names}
 use Rattle.pair_structure.specs.declared.side.Side.TheVariants.{A, B}
 use Rattle.ctl_form.specs.Form.{Form, truth, falsity, at, neg, both, either, implies, next, always, sometime, until}
 use Rattle.formula_text.specs.declared.sign.Leaf.TheVariants.{Yes, No, At}
@@ -14,7 +15,7 @@ use Rattle.formula_text.specs.declared.sign.Sign.TheVariants.{Open, Behind, Unti
 use Rattle.formula_text.specs.Canonical.{AreNames, IsOver}
 use Rattle.formula_text.specs.FormulaText.{formula_text}
 use Rattle.formula_text.specs.Long.{is_open, is_close, is_counted, open_after, most_open, IsLong}
-use Rattle.formula_text.specs.Sign.{Names, behind_dot, word_sign, sign_of, atom_or}
+use Rattle.formula_text.specs.Sign.{behind_dot, word_sign, sign_of, atom_or}
 use Rattle.formula_text.specs.Token.{tokens_of}
 use Rattle.formula_text.specs.Tree.{Tree, leaf, prefixed, grouped, conjunction, disjunction, implication, waits, signs, signs_of, tree_form, Spells}
 use Rattle.formula_text.proofs.Canonical.{form_again, canonical_signs}

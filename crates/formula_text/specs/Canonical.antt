@@ -1,9 +1,11 @@
 -- What the canonical text of a formula is promised to be: a spelling of it.
 use Rattle.std.specs.Prelude.{ℕ, ◌≡◌, ◌<◌, Some, length, true}
+use Rattle.pair_structure.specs.Name.{is_name}
+use Rattle.pair_structure.specs.Parts.{Names, name_at}
 use Rattle.pair_structure.specs.declared.side.Side.TheVariants.{A, B}
 use Rattle.ctl_form.specs.Form.{Form, truth, falsity, at, neg, both, either, implies, next, always, sometime, until}
-use Rattle.formula_text.specs.FormulaText.{formula_text, name_at}
-use Rattle.formula_text.specs.Sign.{Names, is_name, number_of}
+use Rattle.formula_text.specs.FormulaText.{formula_text}
+use Rattle.formula_text.specs.Sign.{number_of}
 use Rattle.formula_text.specs.Token.{tokens_of}
 use Rattle.formula_text.specs.Tree.{IsFormulaOf}
 

@@ -1,14 +1,9 @@
 -- The canonical text of a formula, over the names of each side's local states.
-use Rattle.std.specs.Prelude.{ℕ, Bool, true, false, Option, Some, None, List, [], ◌∷◌, ◌++◌, codes, slice_index_or}
+use Rattle.std.specs.Prelude.{ℕ, Bool, true, false, Option, Some, None, List, [], ◌∷◌, ◌++◌, codes}
+pub use Rattle.pair_structure.specs.Parts.{Names, name_at}
 use Rattle.pair_structure.specs.declared.side.Side.{Side}
 use Rattle.pair_structure.specs.declared.side.Side.TheVariants.{A, B}
 use Rattle.ctl_form.specs.Form.{Form, truth, falsity, at, neg, both, either, implies, next, always, sometime, until}
-
-abbrev pub Names : Type 0
-Names = List (List ℕ)
-
-abbrev pub name_at : Names → ℕ → List ℕ
-name_at names n = slice_index_or names n []
 
 abbrev pub atom_text : Names → Names → Side → ℕ → List ℕ
 atom_text a b A p = codes "a." ++ name_at a p

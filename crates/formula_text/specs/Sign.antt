@@ -1,9 +1,8 @@
 -- What a token says in a formula over the names of two roles' local states.
-use Rattle.std.specs.Prelude.{ℕ, Bool, true, false, nat_le, Option, Some, None, List, [], ◌∷◌, ◌==◌, ◌&&◌, codes, length, position, if◌then◌else◌}
-use Rattle.std.specs.List.{list_all}
-use Rattle.std.specs.Char.{is_ascii_alphabetic}
+use Rattle.std.specs.Prelude.{ℕ, Bool, true, false, Option, Some, None, List, [], ◌∷◌, ◌==◌, ◌&&◌, codes, position, if◌then◌else◌}
 use Rattle.std.specs.Str.{bytes_eq}
-use Rattle.pair_structure.specs.Name.{is_name_byte}
+use Rattle.pair_structure.specs.Name.{is_name}
+pub use Rattle.pair_structure.specs.Parts.{Names}
 use Rattle.pair_structure.specs.declared.side.Side.{Side}
 use Rattle.pair_structure.specs.declared.side.Side.TheVariants.{A, B}
 use Rattle.formula_text.specs.declared.sign.Leaf.TheVariants.{Yes, No, At}
@@ -11,10 +10,6 @@ use Rattle.formula_text.specs.declared.sign.Mark.TheVariants.{And, Or, Arrow, Cl
 use Rattle.formula_text.specs.declared.sign.Prefix.TheVariants.{Not, Next, Always, Sometime}
 use Rattle.formula_text.specs.declared.sign.Sign.{Sign}
 use Rattle.formula_text.specs.declared.sign.Sign.TheVariants.{Alone, Before, Open, Behind, Path, Until, Other}
-
--- the names of a role's local states, in the order of their numbers
-abbrev pub Names : Type 0
-Names = List (List ℕ)
 
 -- the tokens that say the same whatever the names are
 abbrev pub path_words : Bool → List (List ℕ × Sign)
@@ -59,11 +54,6 @@ word_sign (first ∷ rest) =
     if first == 65 then said_in (path_words true) Other rest
     else if first == 69 then said_in (path_words false) Other rest
     else said_in words (said_in marks Other (first ∷ rest)) (first ∷ rest)
-
--- a letter, and up to 15 letters, digits and underscores
-abbrev pub is_name : List ℕ → Bool
-is_name [] = false
-is_name (first ∷ rest) = is_ascii_alphabetic first && nat_le (length rest) 15 && list_all is_name_byte rest
 
 -- the number of a name among these
 abbrev pub number_of : Names → List ℕ → Option ℕ

@@ -7,8 +7,8 @@ abbrev pub is_word_byte : ℕ → Bool
 is_word_byte b = is_ascii_alphanumeric b || b == 95 || b == 46
 
 -- a space or a tab
-abbrev pub is_gap : ℕ → Bool
-is_gap b = b == 32 || b == 9
+abbrev pub is_space : ℕ → Bool
+is_space b = b == 32 || b == 9
 
 -- two neighbours of one token: bytes of a word, or '-' (45) and '>' (62)
 abbrev pub are_joined : ℕ → ℕ → Bool
@@ -27,4 +27,4 @@ before_token b (token ∷ tokens) = (b ∷ token) ∷ tokens
 -- spaces part tokens and are in none
 abbrev pub tokens_of : List ℕ → List (List ℕ)
 tokens_of [] = []
-tokens_of (b ∷ bytes) = if is_gap b then tokens_of bytes else if joins b bytes then before_token b (tokens_of bytes) else (b ∷ []) ∷ tokens_of bytes
+tokens_of (b ∷ bytes) = if is_space b then tokens_of bytes else if joins b bytes then before_token b (tokens_of bytes) else (b ∷ []) ∷ tokens_of bytes

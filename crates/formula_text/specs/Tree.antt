@@ -1,8 +1,10 @@
 -- The grammar of formulas: what is spelled, by which signs, and where each spelling may stand.
-use Rattle.std.specs.Prelude.{ℕ, ◌≡◌, ◌≤◌, Bool, true, false, map, Option, Some, None, List, [], ◌∷◌, ◌++◌}
+use Rattle.std.specs.Prelude.{ℕ, ◌≡◌, ◌≤◌, Bool, true, false, map, None, List, [], ◌∷◌, ◌++◌}
+use Rattle.pair_structure.specs.Parts.{Names}
 use Rattle.ctl_form.specs.Form.{Form, truth, falsity, at, neg, both, either, implies, next, always, sometime, until}
 use Rattle.std.specs.List.{list_all}
-use Rattle.formula_text.specs.Sign.{Names, sign_of}
+use Rattle.std.specs.Option.{unwrap_or}
+use Rattle.formula_text.specs.Sign.{sign_of}
 use Rattle.formula_text.specs.declared.formula_fault.FormulaFault.{FormulaFault}
 use Rattle.formula_text.specs.declared.formula_fault.FormulaFault.TheVariants.{Outside, Unknown, Memory}
 use Rattle.formula_text.specs.declared.sign.Leaf.{Leaf}
@@ -44,14 +46,10 @@ Fits n (implication f g) = (n ≤ 0) × Fits 1 f × Fits 0 g
 Fits n (waits all weak f g) = Fits 0 f × Fits 0 g
 
 -- a name that the role does not have counts as the local state 0 here
-abbrev pub local_of : Option ℕ → ℕ
-local_of None = 0
-local_of (Some local) = local
-
 abbrev pub leaf_form : Leaf → Form
 leaf_form Yes = truth
 leaf_form No = falsity
-leaf_form (At side local) = at side (local_of local)
+leaf_form (At side local) = at side (unwrap_or local 0)
 
 abbrev pub prefix_form : Prefix → Form → Form
 prefix_form Not f = neg f

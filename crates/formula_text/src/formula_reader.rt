@@ -8,7 +8,7 @@ use crate::formula_parser::parse_formula;
 use crate::sign::{Leaf, Sign};
 use crate::token_sign::signs_of;
 use ctl_form::Formula;
-use pair_structure::{Memory, Name};
+use pair_structure::{MAX_LOCALS, Memory, Name};
 use std::alloc::Global;
 
 /// The formula that these tokens spell over the names of the two roles' local states. Linear in the tokens and names.
@@ -18,8 +18,8 @@ pub fn read_formula(
     b: &[Name],
     tokens: &[&[u8]],
 ) -> Result<Formula, FormulaFault>
-    requires few_a { length a.now ≤ 32 }
-    requires few_b { length b.now ≤ 32 }
+    requires few_a { length a.now ≤ MAX_LOCALS }
+    requires few_b { length b.now ≤ MAX_LOCALS }
     ensures ok { IfOk result (λ f. IsFormulaOf a.now b.now (map (λ t. t.now) tokens.now) (form_of f)) }
     ensures fault { IfErr result (FaultStands a.now b.now (map (λ t. t.now) tokens.now)) }
 {

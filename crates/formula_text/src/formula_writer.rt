@@ -1,6 +1,7 @@
 ghost use Rattle.std.specs.Prelude.{◌≡◌, ◌++◌, ◌∷◌, [], OnOk, codes};
+ghost use Rattle.pair_structure.specs.Parts.{name_at};
 ghost use Rattle.ctl_form.specs.Form.{form_of};
-ghost use Rattle.formula_text.specs.FormulaText.{name_at, atom_text, path_letter, side_letters, formula_text};
+ghost use Rattle.formula_text.specs.FormulaText.{atom_text, path_letter, side_letters, formula_text};
 
 use ctl_form::Formula;
 use pair_structure::{Name, Side};

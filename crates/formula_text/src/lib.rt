@@ -17,4 +17,4 @@ pub use formula_writer::{write_formula, write_local};
 pub use laws::{canonical_is_formula, is_spelled_once};
 pub use long::is_long;
 pub use sign::{Leaf, Mark, Prefix, Sign};
-pub use token::tokens_of;
+pub use token::{is_space, tokens_of};

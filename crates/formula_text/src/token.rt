@@ -1,6 +1,6 @@
 ghost use Rattle.std.specs.Prelude.{◌≡◌, ℕ, ◌+◌, ◌-◌, ◌<◌, ◌≤◌, ◌++◌, ◌∷◌, [], length, map, not, true, false, position, slice_index, IfOk, IfSome, IfNone, OnOk};
 ghost use Rattle.std.specs.List.{flat_map};
-ghost use Rattle.formula_text.specs.Token.{tokens_of, is_gap, is_word_byte, are_joined};
+ghost use Rattle.formula_text.specs.Token.{tokens_of, is_space, is_word_byte, are_joined};
 
 use pair_structure::Memory;
 use std::alloc::{AllocError, Global};
@@ -43,7 +43,7 @@ fn next_token(bytes: &[u8]) -> Option<(&[u8], &[u8])>
 /// The token that begins here, and what stands behind it.
 fn cut_token(bytes: &[u8]) -> (&[u8], &[u8])
     requires some { 0 < length bytes.now }
-    requires begins { is_gap (slice_index bytes.now 0) ≡ false }
+    requires begins { is_space (slice_index bytes.now 0) ≡ false }
     ensures cut { tokens_of bytes.now ≡ result.0.now ∷ tokens_of result.1.now }
     ensures shorter { length result.1.now < length bytes.now }
 {
@@ -51,10 +51,10 @@ fn cut_token(bytes: &[u8]) -> (&[u8], &[u8])
 }
 
 fn token_start(bytes: &[u8]) -> Option<usize>
-    ensures start { result ≡ position (λ b. not (is_gap b)) bytes.now }
+    ensures start { result ≡ position (λ b. not (is_space b)) bytes.now }
     ensures within { IfSome result (λ n. n < length bytes.now) }
 {
-    bytes.iter().position(|b| !is_gap(*b))
+    bytes.iter().position(|b| !is_space(*b))
 }
 
 /// How many bytes the token has that begins here.
@@ -85,8 +85,9 @@ fn is_word_byte(b: u8) -> bool
     b.is_ascii_alphanumeric() || b == b'_' || b == b'.'
 }
 
-fn is_gap(b: u8) -> bool
-    ensures { result ≡ is_gap b }
+/// Whether the byte is a space or a tab.
+pub fn is_space(b: u8) -> bool
+    ensures { result ≡ is_space b }
 {
     b == b' ' || b == b'\t'
 }

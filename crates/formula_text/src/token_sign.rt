@@ -1,13 +1,11 @@
 ghost use Rattle.std.specs.Prelude.{◌≡◌, ◌≤◌, ◌<◌, true, false, length, map, position, IfSome, IfOk};
-ghost use Rattle.std.specs.List.{list_all};
 ghost use Rattle.std.specs.Option.{option_map};
 ghost use Rattle.std.specs.Str.{bytes_eq};
-ghost use Rattle.pair_structure.specs.Name.{is_name_byte};
-ghost use Rattle.formula_text.specs.Sign.{sign_of, word_sign, said_in, path_words, words, marks, is_name, number_of, behind_dot, atom_sign};
+ghost use Rattle.formula_text.specs.Sign.{sign_of, word_sign, said_in, path_words, words, marks, number_of, behind_dot, atom_sign};
 ghost use Rattle.formula_text.specs.declared.sign.Sign.TheVariants.{Other};
 
 use crate::sign::{Leaf, Mark, Prefix, Sign};
-use pair_structure::{Memory, Name, Side};
+use pair_structure::{MAX_LOCALS, Memory, Name, Side, is_name};
 use std::alloc::Global;
 
 /// What each of these tokens says, over the names of the two roles' local states.
@@ -17,8 +15,8 @@ pub(crate) fn signs_of(
     b: &[Name],
     tokens: &[&[u8]],
 ) -> Result<Vec<Sign>, Memory>
-    requires few_a { length a.now ≤ 32 }
-    requires few_b { length b.now ≤ 32 }
+    requires few_a { length a.now ≤ MAX_LOCALS }
+    requires few_b { length b.now ≤ MAX_LOCALS }
     ensures { IfOk result (λ signs. signs.items ≡ map (sign_of a.now b.now) (map (λ t. t.now) tokens.now)) }
 {
     let mut signs = Vec::with_capacity(alloc, tokens.len())?;
@@ -30,8 +28,8 @@ pub(crate) fn signs_of(
 
 /// What this token says, over the names of the two roles' local states.
 fn sign_of(a: &[Name], b: &[Name], token: &[u8]) -> Sign
-    requires few_a { length a.now ≤ 32 }
-    requires few_b { length b.now ≤ 32 }
+    requires few_a { length a.now ≤ MAX_LOCALS }
+    requires few_b { length b.now ≤ MAX_LOCALS }
     ensures { result ≡ sign_of a.now b.now token.now }
 {
     if let Some(name) = behind_dot(b'a', token) {
@@ -60,7 +58,7 @@ fn behind_dot(letter: u8, token: &[u8]) -> Option<&[u8]>
 }
 
 fn atom_sign(side: Side, names: &[Name], name: &[u8]) -> Sign
-    requires { length names.now ≤ 32 }
+    requires { length names.now ≤ MAX_LOCALS }
     ensures { result ≡ atom_sign side names.now name.now }
 {
     if !is_name(name) {
@@ -73,29 +71,6 @@ fn atom_sign(side: Side, names: &[Name], name: &[u8]) -> Sign
         }),
         None => Sign::Alone(Leaf::At { side, local: None }),
     }
-}
-
-fn is_name(bytes: &[u8]) -> bool
-    ensures { result ≡ is_name bytes.now }
-{
-    match bytes {
-        [] => false,
-        [first, rest @ ..] => {
-            first.is_ascii_alphabetic() && rest.len() <= 15 && are_name_bytes(rest)
-        }
-    }
-}
-
-fn are_name_bytes(bytes: &[u8]) -> bool
-    ensures { result ≡ list_all is_name_byte bytes.now }
-{
-    bytes.iter().all(|b| is_name_byte(*b))
-}
-
-fn is_name_byte(b: u8) -> bool
-    ensures { result ≡ is_name_byte b }
-{
-    b.is_ascii_alphanumeric() || b == b'_'
 }
 
 /// The number of a name among these.

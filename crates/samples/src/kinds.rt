@@ -53,7 +53,7 @@ pub fn formula(alloc: Global, role: &str, text: &str) -> Result<Formula, Fail> {
 pub fn conjuncts(alloc: Global, spec: &Spec) -> Result<Vec<Formula>, Fail> {
     let kind = spec.kinds().first().ok_or("a kind")?;
     let role = first_role(spec)?;
-    Ok(whole(alloc, kind, role, role)?)
+    Ok(whole(alloc, kind.clauses.as_slice(), role, role)?)
 }
 
 /// The normal form of these clauses and of the free arcs of two such roles.

@@ -59,7 +59,7 @@ fn solve_over(
     requires { IsClosureOver a.now b.now kind.now.clauses → ⊥ }
     ensures { IfOk result (λ found. MatchOption found ((m : Structure) → Satisfies a.now b.now kind.now.clauses m → ⊥) (Satisfies a.now b.now kind.now.clauses)) }
 {
-    let conjuncts = whole(alloc, kind, a, b)?;
+    let conjuncts = whole(alloc, kind.clauses.as_slice(), a, b)?;
     let form = normal_of(alloc, &conjuncts)?;
     match synthesize(alloc, a, b, &form)? {
         Outcome::Structure(structure) => Ok(Some(structure)),

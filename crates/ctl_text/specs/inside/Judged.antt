@@ -1,5 +1,6 @@
 -- What judging and taking a line gives.
 use Rattle.std.specs.Prelude.{ℕ, ◌≡◌, ◌∷◌, List, ◌⊎◌, codes}
+use Rattle.pair_structure.specs.Parts.{Names}
 use Rattle.ctl_form.specs.Form.{Form}
 use Rattle.text_cause.specs.declared.cause.TextCause.{TextCause}
 use Rattle.text_cause.specs.declared.cause.TextCause.TheVariants.{BadHead, Long, BadLine, UnknownName}
@@ -7,7 +8,6 @@ use Rattle.text_cause.specs.declared.line_fault.LineFault.{LineFault}
 use Rattle.text_cause.specs.declared.line_fault.LineFault.TheVariants.{Bad, Memory}
 use Rattle.formula_text.specs.Long.{IsLong}
 use Rattle.ctl_text.specs.Required.{SpellsOver, AreKnownOver, IsUnspelled}
-use Rattle.formula_text.specs.Sign.{Names}
 use Rattle.ctl_text.specs.Item.{Said, require_line, Says}
 use Rattle.ctl_text.specs.State.{State, Group, before_head, MayStand}
 use Rattle.ctl_text.specs.Text.{EndStands}

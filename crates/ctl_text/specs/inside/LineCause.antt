@@ -1,9 +1,11 @@
 -- What stands against each kind of line, as the code judges it, cause by cause; `Cause` states it by causes.
 use Rattle.std.specs.Prelude.{ℕ, ◌≡◌, ◌≤◌, ◌⊎◌, List, length, Contains}
+use Rattle.pair_structure.specs.declared.limits.TheConstants.{MAX_ARCS, MAX_LOCALS}
+use Rattle.interconnection.specs.declared.limits.TheConstants.{MAX_KINDS, MAX_PROCESSES, MAX_ROLES}
 use Rattle.pair_structure.specs.declared.side.LocalArc.{LocalArc}
 use Rattle.pair_structure.specs.Role.{RoleParts, HasArc}
 use Rattle.ctl_form.specs.declared.pair_spec.PairSpec.{PairSpec}
-use Rattle.ctl_form.specs.Kind.{role_at}
+use Rattle.pair_structure.specs.Parts.{role_at}
 use Rattle.interconnection.specs.declared.parts.Process.{Process}
 use Rattle.interconnection.specs.declared.parts.Edge.{Edge}
 use Rattle.text_cause.specs.declared.cause.TextCause.{TextCause}
@@ -25,7 +27,7 @@ ArcStands names made p q cause =
     ⊎ (UseStands names q cause
     ⊎ (((cause ≡ Twice) × HasArc made (number_in names p) (number_in names q))
     ⊎ (((cause ≡ SelfArc) × (p ≡ q))
-    ⊎ ((cause ≡ TooMany 128) × (128 ≤ length made)))))
+    ⊎ ((cause ≡ TooMany MAX_ARCS) × (MAX_ARCS ≤ length made)))))
 
 -- against the end of an open role
 abbrev pub RoleEndStands : List (List ℕ) → List LocalArc → TextCause → Type 0
@@ -33,7 +35,7 @@ RoleEndStands names made cause = (p : ℕ) × (cause ≡ NoArc p) × IsFirstStuc
 
 -- against a kind over two roles
 abbrev pub KindStands : List RoleParts → List PairSpec → List ℕ → List ℕ → List ℕ → TextCause → Type 0
-KindStands roles kinds name a b cause = UseStands (role_names roles) a cause ⊎ (UseStands (role_names roles) b cause ⊎ NameStands (kind_names kinds) 16 name cause)
+KindStands roles kinds name a b cause = UseStands (role_names roles) a cause ⊎ (UseStands (role_names roles) b cause ⊎ NameStands (kind_names kinds) MAX_KINDS name cause)
 
 -- against a clause of an open kind
 abbrev pub ClauseStands : List RoleParts → PairSpec → List (List ℕ) → TextCause → Type 0
@@ -45,7 +47,7 @@ KindEndStands roles k cause = (cause ≡ ClosureOver) × IsClosureOver (role_at 
 
 -- against a process of a role
 abbrev pub ProcessStands : List RoleParts → List Process → List ℕ → List ℕ → TextCause → Type 0
-ProcessStands roles processes name r cause = UseStands (role_names roles) r cause ⊎ NameStands (process_names processes) 1024 name cause
+ProcessStands roles processes name r cause = UseStands (role_names roles) r cause ⊎ NameStands (process_names processes) MAX_PROCESSES name cause
 
 -- against an edge between two processes, all by their numbers
 abbrev pub JoinStands : List Process → List PairSpec → List Edge → ℕ → ℕ → ℕ → TextCause → Type 0
@@ -64,7 +66,7 @@ EdgeStands processes kinds edges p q kind cause =
     ⊎ JoinStands processes kinds edges (number_in (process_names processes) p) (number_in (process_names processes) q) (number_in (kind_names kinds) kind) cause))
 
 abbrev pub LocalBlocks : Group → List ℕ → TextCause → Type 0
-LocalBlocks (in_locals n names) name cause = NameStands names 32 name cause
+LocalBlocks (in_locals n names) name cause = NameStands names MAX_LOCALS name cause
 LocalBlocks group name cause = ⊥
 
 abbrev pub StartBlocks : Group → List ℕ → TextCause → Type 0
@@ -86,7 +88,7 @@ EndBlocks roles group cause = ⊥
 
 -- against a line that may stand there
 abbrev pub LineBlocks : State → Said → TextCause → Type 0
-LineBlocks s (role_line name) cause = NameStands (role_names s.parts.roles) 16 name cause
+LineBlocks s (role_line name) cause = NameStands (role_names s.parts.roles) MAX_ROLES name cause
 LineBlocks s (local_line name) cause = LocalBlocks s.group name cause
 LineBlocks s (start_line name) cause = StartBlocks s.group name cause
 LineBlocks s (arc_line p q free) cause = ArcBlocks s.group p q cause

@@ -1,5 +1,7 @@
 -- What stands above a line and an open group keep, as long as each line is taken.
 use Rattle.std.specs.Prelude.{ℕ, ◌≡◌, ◌≢◌, ◌<◌, ◌≤◌, ◌+◌, List, length, All, AllPairs}
+use Rattle.pair_structure.specs.declared.limits.TheConstants.{MAX_ARCS, MAX_LOCALS}
+use Rattle.interconnection.specs.declared.limits.TheConstants.{MAX_KINDS, MAX_NEIGHBOURS, MAX_PROCESSES, MAX_ROLES}
 use Rattle.pair_structure.specs.declared.side.LocalArc.{LocalArc}
 use Rattle.pair_structure.specs.Role.{JoinsTwo, RoleParts}
 use Rattle.interconnection.specs.Graph.{degree_of}
@@ -8,11 +10,11 @@ use Rattle.ctl_text.specs.Value.{kind_ends}
 use Rattle.ctl_text.specs.State.{State, Group, in_locals, in_arcs, in_kind}
 
 pub record AreLocals (names : List (List ℕ)) : Type 0 where
-  pub few_locals : length names ≤ 32
+  pub few_locals : length names ≤ MAX_LOCALS
   pub names_differ : AllPairs (λ x y. x ≢ y) names
 
 pub record AreArcs (count : ℕ) (made : List LocalArc) : Type 0 where
-  pub few_arcs : length made ≤ 128
+  pub few_arcs : length made ≤ MAX_ARCS
   pub joins : All (JoinsTwo count) made
   pub ends_differ : AllPairs (λ (x y : LocalArc). x.from ≡ y.from → x.to ≡ y.to → ⊥) made
 
@@ -38,10 +40,10 @@ HasItsRoles roles (in_kind k) = (k.role_a < length roles) × (k.role_b < length 
 HasItsRoles roles group = Unit {0}
 
 pub record IsSoundState (s : State) : Type 0 where
-  pub few_roles : length s.parts.roles + open_roles s.group ≤ 16
-  pub few_kinds : length s.parts.kinds + open_kinds s.group ≤ 16
-  pub few_processes : length s.parts.processes ≤ 1024
+  pub few_roles : length s.parts.roles + open_roles s.group ≤ MAX_ROLES
+  pub few_kinds : length s.parts.kinds + open_kinds s.group ≤ MAX_KINDS
+  pub few_processes : length s.parts.processes ≤ MAX_PROCESSES
   pub group : IsSound s.group
   pub kind_roles : HasItsRoles s.parts.roles s.group
   pub network : AreLawful s.parts.roles (kind_ends s.parts.kinds) s.parts.processes s.parts.edges
-  pub few_edges : (k : ℕ) → degree_of s.parts.edges k ≤ 32
+  pub few_edges : (k : ℕ) → degree_of s.parts.edges k ≤ MAX_NEIGHBOURS

@@ -1,4 +1,4 @@
-use Rattle.std.proofs.Common.{ℕ, ◌+◌, ◌*◌}
+use Rattle.std.proofs.Common.{◌+◌, ◌*◌}
 use Rattle.ctl_form.specs.Form.{form_of}
 use Rattle.ctl_form.specs.inside.Walking.{operators}
 use Rattle.ctl_form.proofs.code.«+coding».Given as goal

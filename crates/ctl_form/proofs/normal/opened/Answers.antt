@@ -1,4 +1,4 @@
-use Rattle.std.proofs.Common.{◌≡◌, ◌<◌, ◌≤◌, false, Some, List, length, arith, ap}
+use Rattle.std.proofs.Common.{◌≡◌, ◌≤◌, false, Some, List, length, arith, ap}
 use Rattle.pair_structure.specs.declared.side.Side.TheVariants.{A, B}
 use Rattle.ctl_form.specs.Closure.{opening}
 use Rattle.ctl_form.specs.Form.{Form, truth, falsity, next}

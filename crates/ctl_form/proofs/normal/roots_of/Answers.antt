@@ -1,4 +1,4 @@
-use Rattle.std.proofs.Common.{ℕ, suc, ◌≡◌, ◌+◌, true, List, length, map, take, arith, subst, sym, Vec, Global}
+use Rattle.std.proofs.Common.{ℕ, suc, ◌≡◌, ◌+◌, true, List, map, take, arith, subst, sym, Vec, Global}
 use Rattle.ctl_form.specs.Form.{Form, form_of}
 use Rattle.ctl_form.specs.Members.{forms_of}
 use Rattle.ctl_form.specs.MemberTable.{IsFaultOf}

@@ -1,10 +1,10 @@
-use Rattle.std.proofs.Common.{◌≡◌, ◌<◌, ◌≤◌, Bool, true, false, Some, List, length, arith, refl, rules, ap}
+use Rattle.std.proofs.Common.{Bool, true, false, Some, length, arith, refl, ap}
 use Rattle.pair_structure.specs.declared.side.Side.TheVariants.{A, B}
 use Rattle.ctl_form.specs.Form.{Form, form_of, truth, falsity, both, next, until}
 use Rattle.ctl_form.specs.Members.{form_at, form_of_part, forms_of}
 use Rattle.ctl_form.specs.Normal.{normal}
 use Rattle.ctl_form.specs.Walk.{noted, noted_until, walk}
-use Rattle.ctl_form.specs.inside.Walking.{pair, nexts, ever, once, release}
+use Rattle.ctl_form.specs.inside.Walking.{pair}
 use Rattle.ctl_form.specs.declared.part.Part.{Part}
 use Rattle.ctl_form.proofs.WalkLaws.{length_noted}
 use Rattle.ctl_form.proofs.MemberWalkLaws.{fails, grown_after, kept_noted, kept_first, member_of, numbered_as, numbered_next, numbered_other_next, numbered_both_again, numbered_walk_until, next_walked, other_walked, both_walked, pair_walked, pair_below, until_walked, le_pair, le_until, le_same, length_pair_first, length_walk_until_first}

@@ -1,4 +1,4 @@
-use Rattle.std.proofs.Common.{◌≤◌, length, arith, ap}
+use Rattle.std.proofs.Common.{length, arith, ap}
 use Rattle.ctl_form.proofs.MemberLaws.{numbered_found, numbered_added, over_added}
 use Rattle.ctl_form.proofs.members.Members.note.Goals as goal
 

@@ -1,9 +1,8 @@
-use Rattle.std.proofs.Common.{◌<◌, ◌≤◌, Bool, Some, List, length, arith, ap}
+use Rattle.std.proofs.Common.{Some, List}
 use Rattle.pair_structure.specs.declared.side.Side.TheVariants.{A, B}
 use Rattle.ctl_form.specs.Form.{Form, next, until}
 use Rattle.ctl_form.specs.Members.{form_at, forms_of}
 use Rattle.ctl_form.specs.Walk.{noted, noted_until}
-use Rattle.ctl_form.proofs.WalkLaws.{length_noted}
 use Rattle.ctl_form.proofs.MemberWalkLaws.{fails, numbered_until, member_of, kept_noted, length_until, length_first_next, length_second_next}
 use Rattle.ctl_form.proofs.members.Members.note_until.Goals as goal
 

@@ -2,9 +2,9 @@ use Rattle.ctl_text.proofs.EdgeTables.{IsBeside-loop, IsBeside-more}
 use Rattle.ctl_text.proofs.edges.Edges.with.Goals as goal
 
 pub invariant_of-result : goal.invariant_of-result
-invariant_of-result c = rw c.in_ok-push.ensures.items (IsBeside-loop _ c.args.edge _ c.push-2.new.self c.if-edge.true c.self.invariant c.in_ok-push-2.ensures.here c.in_ok-push-2.ensures.elsewhere)
+invariant_of-result c = rw c.in_ok-push.ensures.items (IsBeside-loop _ c.args.edge _ c.push-2.new.self c.if-edge.true c.self.invariant c.in_ok-push-2.ensures.here c.push-2.ensures.elsewhere)
 
 pub invariant_of-result-2 : goal.invariant_of-result-2
 invariant_of-result-2 c =
     rw c.in_ok-push.ensures.items
-    (IsBeside-more _ c.args.edge _ c.push-2.new.self c.push-3.new.self c.if-edge.false c.self.invariant c.in_ok-push-2.ensures.here c.in_ok-push-2.ensures.elsewhere c.in_ok-push-3.ensures.here c.in_ok-push-3.ensures.elsewhere)
+    (IsBeside-more _ c.args.edge _ c.push-2.new.self c.push-3.new.self c.if-edge.false c.self.invariant c.in_ok-push-2.ensures.here c.push-2.ensures.elsewhere c.in_ok-push-3.ensures.here c.push-3.ensures.elsewhere)
