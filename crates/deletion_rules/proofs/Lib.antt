@@ -7,6 +7,7 @@ pub mod FromPositions
 pub mod Kept
 pub mod Left
 pub mod MoveList
+pub mod Onward
 pub mod Pending
 pub mod Picks
 pub mod Plain
