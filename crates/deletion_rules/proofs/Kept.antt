@@ -20,7 +20,8 @@ use Rattle.deletion_rules.specs.Pruned.{IsUnsatisfiable}
 use Rattle.deletion_rules.specs.inside.Stable.{IsLasting}
 use Rattle.deletion_rules.specs.inside.Thinning.{IsThinned}
 use Rattle.deletion_rules.proofs.Removal.{removal_keeps_met, dead_is_unsatisfiable}
-use Rattle.deletion_rules.proofs.Standing.{flag_within}
+use Rattle.deletion_rules.proofs.Standing.{flag_within, no_yes}
+use Rattle.deletion_rules.proofs.Basics.{value_same}
 use Rattle.deletion_rules.specs.Targets.{target_with}
 use Rattle.deletion_rules.specs.declared.target.Target.{Target}
 use Rattle.deletion_rules.proofs.Left.{fulfilled_marked, falls_with}
@@ -34,15 +35,9 @@ count_yes xs = sum_by-cons (λ (living : Bool). cond living 1 0) true xs ∙ add
 count_no : (xs : List Bool) → living_count (false ∷ xs) ≡ living_count xs
 count_no xs = sum_by-cons (λ (living : Bool). cond living 1 0) false xs ∙ zero-add (living_count xs)
 
-same_some : (o : Option ℕ) (x y : ℕ) → o ≡ Some x → o ≡ Some y → x ≡ y
-same_some o x y e f = cc
-
-never : false ≡ true → ⊥
-never e = cc
-
 -- fewer nodes, or the same
 living_falls : (xs ys : List Bool) → length xs ≡ length ys → Within ys xs → (living_count ys < living_count xs) ⊎ ((living_count ys ≡ living_count xs) × Within xs ys)
-living_falls [] [] e h = inr (refl, λ n q. absurd (never q))
+living_falls [] [] e h = inr (refl, λ n q. absurd (no_yes q))
 living_falls [] (y ∷ ys) e h = absurd (omega (arith, e))
 living_falls (x ∷ xs) [] e h = absurd (omega (arith, e))
 living_falls (x ∷ xs) (y ∷ ys) e h = by x y (h 0) (living_falls xs ys (omega (arith, e)) (λ n q. h (suc n) q))
@@ -56,12 +51,12 @@ living_falls (x ∷ xs) (y ∷ ys) e h = by x y (h 0) (living_falls xs ys (omega
         grown (suc n) q = s.1 n q
     by true false f (inl l) = inl (omega (arith, l, count_yes xs, count_no ys))
     by true false f (inr s) = inl (let q = s.0 in omega (arith, q, count_yes xs, count_no ys))
-    by false true f d = absurd (never (f refl))
+    by false true f d = absurd (no_yes (f refl))
     by false false f (inl l) = inl (omega (arith, l, count_no xs, count_no ys))
     by false false f (inr s) = inr (let q = s.0 in omega (arith, q, count_no xs, count_no ys), grown)
       where
         grown : Within (false ∷ xs) (false ∷ ys)
-        grown zero q = absurd (never q)
+        grown zero q = absurd (no_yes q)
         grown (suc n) q = s.1 n q
 
 -- all nodes live at first
@@ -127,8 +122,8 @@ module _ (t : TableauParts) (lives left : List Bool) (table : List (List (Option
     -- the marks are the least ranks
     pub left_least : IsTableau t → IsGraph t.closure (graph_of t) → AreLeastRanks t.closure (graph_of t) (lives_of lives) (ranks_of table)
     left_least k ok n r x alive strong e = record {
-      fulfilled = falls_with t.closure k.rules.closure (graph_of t) ok (lives_of lives) live_within x.member x.f x.g (ranks_of table) x.all strong.part (λ n' r' alive' has' e'. let v = ranked n' x alive' (record { part = strong.part; member = has' }) in subst (λ j. Falls t.closure (graph_of t) (lives_of lives) (ranks_of table) x j n') (same_some (ranks_of table n' x.member) v.0 r' v.1 e') v.2) (suc r) n r (omega arith) alive strong.member e;
-      least = λ d y. (let m = fulfilled_marked t.closure k.rules.closure (graph_of t) ok (lives_of lives) live_within x.member x.f x.g x.all strong.part (marks_at table x.member) ((h.each x.member (until_lt t.closure x.member x.f x.g x.all false strong.part)).strong x.all x.f x.g strong.part) d n alive strong.member y in let q = same_some (ranks_of table n x.member) m.0 r m.2 e in let le = m.1 in omega (arith, q, le));
+      fulfilled = falls_with t.closure k.rules.closure (graph_of t) ok (lives_of lives) live_within x.member x.f x.g (ranks_of table) x.all strong.part (λ n' r' alive' has' e'. let v = ranked n' x alive' (record { part = strong.part; member = has' }) in subst (λ j. Falls t.closure (graph_of t) (lives_of lives) (ranks_of table) x j n') (value_same (ranks_of table n' x.member) v.0 r' v.1 e') v.2) (suc r) n r (omega arith) alive strong.member e;
+      least = λ d y. (let m = fulfilled_marked t.closure k.rules.closure (graph_of t) ok (lives_of lives) live_within x.member x.f x.g x.all strong.part (marks_at table x.member) ((h.each x.member (until_lt t.closure x.member x.f x.g x.all false strong.part)).strong x.all x.f x.g strong.part) d n alive strong.member y in let q = value_same (ranks_of table n x.member) m.0 r m.2 e in let le = m.1 in omega (arith, q, le));
     }
 
 pub met_left : (t : TableauParts) → IsTableau t → IsGraph t.closure (graph_of t) → ChildrenCover t.a t.b t.closure (graph_of t) → (lives left : List Bool) (table : List (List (Option ℕ))) → MetLive t.a t.b t.closure (graph_of t) (lives_of lives) → AreLeft t.closure (graph_of t) (lives_of lives) table (length t.ands) left → MetLive t.a t.b t.closure (graph_of t) (lives_of left)

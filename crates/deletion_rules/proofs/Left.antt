@@ -20,6 +20,7 @@ use Rattle.deletion_rules.specs.Tests.{is_missing, lives_on, AreLivingOrs, NoneM
 use Rattle.deletion_rules.specs.declared.target.Target.{Target}
 use Rattle.deletion_rules.proofs.Seen.{lives_on_in, lives_on_out}
 use Rattle.deletion_rules.proofs.Survive.{full_until}
+use Rattle.deletion_rules.proofs.Basics.{and_rest}
 use Rattle.deletion_rules.proofs.Onward.{onward}
 
 after_of : (c : ClosureParts) (g : Graph) (n u : ℕ) → Has (g.row n) (after c A u) → Has (g.row n) (after c B u) → (side : Side) → Has (g.row n) (after c side u)
@@ -110,10 +111,6 @@ some_mark : (o : Option ℕ) → is_none o ≡ false → (r : ℕ) × (o ≡ Som
 some_mark (Some r) e = (r, refl)
 some_mark None e = absurd (let q : true ≡ false = e in cc)
 
-not_missing : (a d : Bool) → a && d ≡ false → a ≡ true → d ≡ false
-not_missing true d e p = e
-not_missing false d e p = absurd (let x : false ≡ true = p in cc)
-
 module _ (t : TableauParts) (k : IsTableau t) (ok : IsGraph t.closure (graph_of t)) (lives : List Bool) (within : (n : ℕ) → lives_of lives n ≡ true → n < length t.ands) (table : List (List (Option ℕ))) (h : AreTable t.closure (graph_of t) (lives_of lives) (count t.closure) table) (n : ℕ) (small : n < length t.ands) where
   -- a node that no rule deletes
   pub left_yes : (targets : List Target) (flags : List Bool) → AreLivingOrs t lives (length t.ors) flags → AreTargets t.closure (count t.closure) targets → lives_of lives n ≡ true → lives_on t flags n ≡ true → NoneMissing t table n (length targets) targets → IsLeft t.closure (graph_of t) (lives_of lives) table n
@@ -123,7 +120,7 @@ module _ (t : TableauParts) (k : IsTableau t) (ok : IsGraph t.closure (graph_of 
     marked = λ u strong. (
         let at = are.all u.member u.f u.g u.all (until_lt t.closure u.member u.f u.g u.all false strong.part) strong.part in
         let seen : is_missing t table n u.member ≡ false = subst (λ i. is_missing t table n i ≡ false) at.2 (none at.0 at.1) in
-        some_mark (ranks_of table n u.member) (not_missing ((graph_of t).row n u.member) (is_none (ranks_of table n u.member)) seen strong.member));
+        some_mark (ranks_of table n u.member) (and_rest ((graph_of t).row n u.member) (is_none (ranks_of table n u.member)) seen strong.member));
   }
 
   -- one without a living child of some successor

@@ -1,3 +1,4 @@
+pub mod Basics
 pub mod Best
 pub mod Choice
 pub mod Descent

@@ -25,16 +25,11 @@ use Rattle.deletion_rules.specs.Targets.{IsTarget, target_with}
 use Rattle.deletion_rules.specs.Tests.{has_member, is_met}
 use Rattle.deletion_rules.specs.declared.edges.Arrow.{Arrow}
 use Rattle.deletion_rules.specs.declared.target.Target.{Target}
+use Rattle.deletion_rules.proofs.Basics.{no_some, some_same}
 use Rattle.deletion_rules.proofs.Seen.{all_out, successor_hit, successor_there}
 use Rattle.deletion_rules.proofs.Standing.{flag_within, no_yes}
 use Rattle.deletion_rules.proofs.Within.{next_below}
 use Rattle.deletion_rules.proofs.Onward.{onward}
-
-some_same : {x y : ℕ} → ◌≡◌ {A = Option ℕ} (Some x) (Some y) → x ≡ y
-some_same e = cc
-
-no_some : {x : ℕ} → ◌≡◌ {A = Option ℕ} None (Some x) → ⊥
-no_some e = cc
 
 open_none : (marks : List (Option ℕ)) → open_count (marks ++ None ∷ []) ≡ open_count marks + 1
 open_none marks = sum_by-append (λ (mark : Option ℕ). cond (is_none mark) 1 0) marks (None ∷ [])

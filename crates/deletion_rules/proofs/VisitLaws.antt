@@ -18,6 +18,7 @@ use Rattle.deletion_rules.specs.inside.Spread.{IsAdmitted, IsArrowTo, IsLed, IsL
 use Rattle.deletion_rules.specs.Tests.{has_member}
 use Rattle.deletion_rules.specs.declared.edges.Arrow.{Arrow}
 use Rattle.deletion_rules.specs.declared.target.Target.{Target}
+use Rattle.deletion_rules.proofs.Basics.{no_some, some_same}
 use Rattle.deletion_rules.proofs.Seen.{successor_hit, successor_there}
 use Rattle.deletion_rules.proofs.Standing.{no_yes, none_before, stands_all, stands_cases}
 
@@ -33,12 +34,6 @@ set_here marks i r lt = get_or-set_same marks i (Some r) None lt
 
 set_other : (marks : List (Option ℕ)) (i j r : ℕ) → j ≢ i → mark_at (slice_set marks i (Some r)) j ≡ mark_at marks j
 set_other marks i j r ne = get_or-set_other marks i j (Some r) None ne
-
-some_same : {x y : ℕ} → ◌≡◌ {A = Option ℕ} (Some x) (Some y) → x ≡ y
-some_same e = cc
-
-no_some : {x : ℕ} → ◌≡◌ {A = Option ℕ} None (Some x) → ⊥
-no_some e = cc
 
 -- an arrow to one of the first k OR nodes of a list
 abbrev pub IsArrowBefore : List (List Arrow) → List ℕ → ℕ → Arrow → Type 0
