@@ -21,6 +21,15 @@ pub(crate) struct Ways {
     pub(crate) third: Option<Row>,
 }
 
+/// An until of the closure: its member number, whether it is one of all paths, and its parts f and g.
+#[derive(Clone, Copy)]
+struct UntilMember {
+    member: u32,
+    all: bool,
+    f: u32,
+    g: u32,
+}
+
 /// How the member of the row can be met.
 pub(crate) fn ways_of(c: &Closure, marks: &Marks, row: &Row, member: u32) -> Ways
     requires marks { AreMarks c.now (marks.now.a, marks.now.b) marks.now.values.items (set_of marks.now.wrong.words) }
@@ -31,7 +40,9 @@ pub(crate) fn ways_of(c: &Closure, marks: &Marks, row: &Row, member: u32) -> Way
     match c.part(member) {
         Part::Both { f, g } => one(row.with(f).with(g)),
         Part::Either { f, g } => either_ways(c, marks, row, f, g),
-        Part::Until { all, f, g, .. } => until_ways(c, marks, row, member, all, f, g),
+        Part::Until { all, f, g, .. } => {
+            until_ways(c, marks, row, &UntilMember { member, all, f, g })
+        }
         _ => one(*row),
     }
 }
@@ -78,27 +89,27 @@ fn either_ways(c: &Closure, marks: &Marks, row: &Row, f: u32, g: u32) -> Ways
     two(row.with(f), row.with(g))
 }
 
-fn until_ways(c: &Closure, marks: &Marks, row: &Row, member: u32, all: bool, f: u32, g: u32) -> Ways
+fn until_ways(c: &Closure, marks: &Marks, row: &Row, until: &UntilMember) -> Ways
     requires marks { AreMarks c.now (marks.now.a, marks.now.b) marks.now.values.items (set_of marks.now.wrong.words) }
-    requires f { f < count c.now }
-    requires g { g < count c.now }
+    requires f { until.now.f < count c.now }
+    requires g { until.now.g < count c.now }
     requires few { count c.now ≤ 512 }
-    requires member { member < count c.now }
-    requires after_a { after c.now A member < count c.now }
-    requires after_b { after c.now B member < count c.now }
-    ensures { ways_rows result ≡ ways c.now (is_plain c.now (marks.now.a, marks.now.b)) (set_of row.now.words) member (Until all false f g) }
+    requires member { until.now.member < count c.now }
+    requires after_a { after c.now A until.now.member < count c.now }
+    requires after_b { after c.now B until.now.member < count c.now }
+    ensures { ways_rows result ≡ ways c.now (is_plain c.now (marks.now.a, marks.now.b)) (set_of row.now.words) until.now.member (Until until.now.all false until.now.f until.now.g) }
 {
-    if row.has(g) {
+    if row.has(until.g) {
         return one(*row);
     }
-    if marks.is_plain(c, g) {
-        return one(row.with(g));
+    if marks.is_plain(c, until.g) {
+        return one(row.with(until.g));
     }
-    let now = row.with(g);
-    let later = row.with(f);
-    let after_a = c.after(Side::A, member);
-    let after_b = c.after(Side::B, member);
-    if all {
+    let now = row.with(until.g);
+    let later = row.with(until.f);
+    let after_a = c.after(Side::A, until.member);
+    let after_b = c.after(Side::B, until.member);
+    if until.all {
         return two(now, later.with(after_a).with(after_b));
     }
     Ways {

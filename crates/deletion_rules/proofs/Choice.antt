@@ -4,8 +4,7 @@ use Rattle.std.proofs.Math.Decide.{dec_le}
 use Rattle.pair_structure.specs.Structure.{Structure, HasMove, Reaches, GoesOn}
 use Rattle.pair_structure.specs.declared.side.Side.{Side}
 use Rattle.pair_structure.specs.declared.side.Side.TheVariants.{A, B}
-use Rattle.ctl_form.specs.Form.{Form, until}
-use Rattle.ctl_form.specs.Rounds.{Round, InRounds}
+use Rattle.ctl_form.specs.Form.{until}
 use Rattle.ctl_form.specs.Truth.{Holds}
 use Rattle.ctl_form.specs.declared.part.Part.{Part}
 use Rattle.ctl_form.specs.declared.part.Part.TheVariants.{Yes, No, Lit, Both, Either, Next, Until}

@@ -1,26 +1,24 @@
 -- From a kept set whose root has a living child there is a structure in which the roots hold.
-use Rattle.std.proofs.Common.{ℕ, zero, suc, ◌≡◌, ◌⊎◌, ◌<◌, ◌≤◌, inl, inr, Bool, true, false, Option, Some, List, [], ◌∷◌, ◌++◌, Contains, length, map, refl, subst, sym, arith, ◌∙◌, ap, slice_get, slice_index_or}
+use Rattle.std.proofs.Common.{ℕ, ◌≡◌, ◌⊎◌, ◌<◌, ◌≤◌, inl, inr, Bool, true, false, Option, List, [], ◌∷◌, Contains, length, map, refl, subst, sym, arith, ◌∙◌, ap, slice_index_or}
 use Rattle.std.proofs.Math.Decide.{dec_lt, ℕ_discrete}
-use Rattle.std.proofs.lemmas.List.Elements.{Contains-append_left, Contains-append_right, Contains-append_cases, Contains-push, Contains-push_cases, Contains-get_or}
-use Rattle.std.proofs.lemmas.List.{get_or-map, get_or_default, length-map}
+use Rattle.std.proofs.lemmas.List.Elements.{Contains-append_right, Contains-append_cases, Contains-push_cases, Contains-get_or}
+use Rattle.std.proofs.lemmas.List.{get_or_default}
 use Rattle.std.proofs.lemmas.List.FromFn.{length-range_with_len}
-use Rattle.std.proofs.lemmas.Option.{slice_get-get_or}
 use Rattle.pair_structure.specs.Role.{RoleParts, IsRole}
-use Rattle.pair_structure.specs.Structure.{Structure, HasMove, GoesOn, IsLabel, IsLawfulMove, IsOver, IsPairStructure, label_at}
+use Rattle.pair_structure.specs.Structure.{Structure, IsLabel, IsOver}
 use Rattle.pair_structure.specs.declared.side.Move.{Move}
 use Rattle.pair_structure.specs.declared.side.Side.{Side}
 use Rattle.pair_structure.specs.declared.side.Side.TheVariants.{A, B}
 use Rattle.ctl_form.specs.declared.part.Part.{Part}
 use Rattle.ctl_form.specs.declared.part.Part.TheVariants.{Yes, No, Lit, Both, Either, Next, Until}
 use Rattle.ctl_form.proofs.Decided.{Decided, decided_below, decided_both}
-use Rattle.closure_sets.specs.ClosureParts.{ClosureParts, IsClosureParts, count, some_move}
+use Rattle.closure_sets.specs.ClosureParts.{ClosureParts, IsClosureParts, count}
 use Rattle.closure_sets.specs.Full.{Has}
 use Rattle.closure_sets.specs.Label.{part_of}
 use Rattle.closure_sets.proofs.Closures.{member_of}
-use Rattle.tableau_graph.specs.Rules.{Follows}
 use Rattle.tableau_graph.specs.Graph.{Graph, IsGraph, IsSomeNext, FollowArcs}
 use Rattle.deletion_rules.specs.Deletion.{IsKept}
-use Rattle.deletion_rules.specs.Unravel.{Plan, IsStep, IsUnravelled, row_at}
+use Rattle.deletion_rules.specs.Unravel.{Plan, IsStep, IsUnravelled}
 use Rattle.deletion_rules.specs.declared.position.Position.{Position}
 use Rattle.deletion_rules.proofs.FromPositions.{Leads, unravelled_of, over_of}
 use Rattle.deletion_rules.proofs.MoveList.{moves_below, moves_are, moves_have, moves_rise}

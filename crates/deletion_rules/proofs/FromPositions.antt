@@ -1,10 +1,10 @@
 -- Positions with moves between them that are steps of an unravelling make a structure over the roles.
-use Rattle.std.proofs.Common.{ℕ, ◌≡◌, ◌⊎◌, ◌<◌, ◌≤◌, inl, inr, Bool, false, Option, Some, List, Contains, length, map, subst, arith, ◌∙◌, ap, slice_get, slice_index_or}
+use Rattle.std.proofs.Common.{ℕ, ◌≡◌, ◌<◌, ◌≤◌, inl, inr, Bool, false, Option, Some, List, Contains, length, map, arith, ◌∙◌, ap, slice_index_or}
 use Rattle.std.proofs.lemmas.List.Elements.{Contains-get_or}
 use Rattle.std.proofs.lemmas.List.{get_or-map, length-map}
 use Rattle.std.proofs.lemmas.Option.{slice_get-get_or}
-use Rattle.pair_structure.specs.Role.{RoleParts, IsRole}
-use Rattle.pair_structure.specs.Structure.{Structure, HasMove, GoesOn, IsLabel, IsLawfulMove, IsOver, IsRising, label_at}
+use Rattle.pair_structure.specs.Role.{RoleParts}
+use Rattle.pair_structure.specs.Structure.{Structure, HasMove, GoesOn, IsLawfulMove, IsOver, IsRising, label_at}
 use Rattle.pair_structure.specs.declared.side.Move.{Move}
 use Rattle.pair_structure.specs.declared.side.Side.{Side}
 use Rattle.pair_structure.specs.declared.side.Side.TheVariants.{A, B}

@@ -1,3 +1,4 @@
+pub mod Basics
 pub mod Best
 pub mod Choice
 pub mod Descent
@@ -7,6 +8,7 @@ pub mod FromPositions
 pub mod Kept
 pub mod Left
 pub mod MoveList
+pub mod Onward
 pub mod Pending
 pub mod Picks
 pub mod Plain

@@ -1,24 +1,22 @@
 -- In a kept set each EXs h of a node has a step of the unravelling.
-use Rattle.std.proofs.Common.{ℕ, ◌≡◌, ◌⊎◌, ◌<◌, ◌≤◌, inl, inr, Bool, true, false, Option, Some, None, List, Contains, length, refl, subst, sym, arith, ◌∙◌, ap}
+use Rattle.std.proofs.Common.{ℕ, ◌≡◌, ◌<◌, ◌≤◌, inl, inr, Bool, true, false, Option, Some, List, Contains, length, refl, subst, sym, arith, ◌∙◌, ap}
 use Rattle.std.proofs.Math.Decide.{ℕ_discrete}
 use Rattle.pair_structure.specs.Role.{RoleParts, IsRole, HasArc}
 use Rattle.pair_structure.specs.Structure.{IsLabel}
 use Rattle.pair_structure.specs.declared.side.LocalArc.{LocalArc}
 use Rattle.pair_structure.specs.declared.side.Side.{Side}
 use Rattle.pair_structure.specs.declared.side.Side.TheVariants.{A, B}
-use Rattle.ctl_form.specs.declared.part.Part.TheVariants.{Until}
-use Rattle.closure_sets.specs.ClosureParts.{ClosureParts, after}
-use Rattle.closure_sets.specs.Full.{Has}
-use Rattle.closure_sets.specs.Label.{part_of}
+use Rattle.closure_sets.specs.ClosureParts.{ClosureParts}
 use Rattle.tableau_graph.specs.Rules.{Follows}
-use Rattle.tableau_graph.specs.Graph.{Graph, IsGraph, IsSomeNext, FollowArcs}
-use Rattle.deletion_rules.specs.Deletion.{LivesOr, IsKept, IsStrong, HasLower, Falls}
-use Rattle.deletion_rules.specs.Unravel.{Plan, target, target_at, row_at, IsPending, Pends, IsPassed, MovesOn, StaysWhilePending, Pursues, IsKeptBy, IsStep}
+use Rattle.tableau_graph.specs.Graph.{Graph, IsSomeNext, FollowArcs}
+use Rattle.deletion_rules.specs.Deletion.{IsKept, HasLower, Falls}
+use Rattle.deletion_rules.specs.Unravel.{Plan, target, target_at, row_at, Pends, MovesOn, StaysWhilePending, Pursues, IsKeptBy, IsStep}
 use Rattle.deletion_rules.specs.declared.position.Position.{Position}
 use Rattle.deletion_rules.specs.inside.Picking.{IsBest, IsGood, IsNextPlace, IsPlan, Pending, or_zero}
 use Rattle.deletion_rules.proofs.Best.{best_of}
 use Rattle.deletion_rules.proofs.Pending.{pending_case, decided_pending, one_kind}
 use Rattle.deletion_rules.proofs.Searches.{next_place}
+use Rattle.deletion_rules.specs.Targets.{target_with}
 
 -- an arc ends in a local state of its role
 arc_end : (r : RoleParts) → IsRole r → (p q : ℕ) → HasArc r.arcs p q → q < length r.locals
@@ -67,9 +65,9 @@ module _ (a b : RoleParts) (ra : IsRole a) (rb : IsRole b) (c : ClosureParts) (g
           omega (arith, le, lt, e, f)
 
       each_falls : Pends c g plan true p → HasLower g lives rank (target plan p) own_rank (g.next_or p.node i)
-      each_falls x = by (kept.ranks.some p.node (target plan p) x.0 x.1 true good.living (record { part = x.2; member = x.3 }))
+      each_falls x = by (kept.ranks.some p.node (target_with true (target plan p) x.0 x.1) good.living (record { part = x.2; member = x.3 }))
         where
-          by : (r : ℕ) × (rank p.node (target plan p) ≡ Some r) × Falls c g lives rank true (target plan p) x.0 x.1 r p.node → HasLower g lives rank (target plan p) own_rank (g.next_or p.node i)
+          by : (r : ℕ) × (rank p.node (target plan p) ≡ Some r) × Falls c g lives rank (target_with true (target plan p) x.0 x.1) r p.node → HasLower g lives rank (target plan p) own_rank (g.next_or p.node i)
           by u = elim u.2 [ inl met ↦ absurd (x.4 met) | inr v ↦ subst (λ r. HasLower g lives rank (target plan p) r (g.next_or p.node i)) (sym (ap or_zero u.1)) (v.1 i h side some) ]
 
       kept_falls : Pends c g plan false p → IsKeptBy g plan p i → HasLower g lives rank (target plan p) own_rank (g.next_or p.node i)

@@ -1,5 +1,5 @@
 -- Constants and literals that a label does not make false are true wherever a state has it.
-use Rattle.std.proofs.Common.{ℕ, ◌≡◌, ◌≤◌, Bool, true, false, not, Some, List, length, refl, subst, sym, ◌∙◌, ap, slice_get, arith}
+use Rattle.std.proofs.Common.{ℕ, ◌≡◌, ◌≤◌, Bool, true, false, not, Some, List, refl, subst, sym, slice_get, arith}
 use Rattle.std.proofs.lemmas.List.{get_or_past}
 use Rattle.pair_structure.specs.Structure.{Structure}
 use Rattle.pair_structure.specs.declared.side.Side.{Side}

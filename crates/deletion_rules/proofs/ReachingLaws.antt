@@ -1,5 +1,5 @@
 -- Reaching, an OR node at a time.
-use Rattle.std.proofs.Common.{ℕ, ◌≡◌, ◌⊎◌, ◌<◌, ◌≤◌, ◌+◌, ◌++◌, inl, inr, Bool, true, false, List, [], ◌∷◌, Contains, length, length-set, refl, subst, sym, ◌∙◌, ap, arith, slice_index_or, slice_set}
+use Rattle.std.proofs.Common.{ℕ, ◌≡◌, ◌⊎◌, ◌<◌, ◌≤◌, ◌+◌, ◌++◌, inl, inr, Bool, true, List, [], ◌∷◌, Contains, length, length-set, refl, subst, sym, ◌∙◌, arith, slice_index_or, slice_set}
 use Rattle.std.proofs.lemmas.List.Elements.{Contains-append_left, Contains-append_right, Contains-push_cases}
 use Rattle.std.proofs.lemmas.Grind.{get_or_default_zero}
 use Rattle.deletion_rules.specs.inside.Cursors.{flag_of}

@@ -1,27 +1,25 @@
 -- Each formula of a node's row is true at the node's states.
-use Rattle.std.proofs.Common.{ℕ, zero, suc, ◌≡◌, ◌⊎◌, ◌<◌, inl, inr, Bool, true, false, Contains, Some, length, refl, subst, sym, arith, ap, ◌∙◌}
+use Rattle.std.proofs.Common.{ℕ, zero, suc, ◌≡◌, ◌⊎◌, ◌<◌, inl, inr, Bool, true, false, length, refl, subst, sym, arith, ap, ◌∙◌}
 use Rattle.std.proofs.Math.Decide.{ℕ_discrete, dec_lt}
 use Rattle.pair_structure.specs.Structure.{Structure, HasMove, Reaches}
 use Rattle.pair_structure.specs.declared.side.Side.{Side}
 use Rattle.pair_structure.specs.declared.side.Side.TheVariants.{A, B}
-use Rattle.ctl_form.specs.Form.{Form, both, either, next, until}
 use Rattle.ctl_form.specs.Members.{form_of_part, forms_of, IsBelow}
 use Rattle.ctl_form.specs.Rounds.{Round, InRounds}
 use Rattle.ctl_form.specs.Truth.{Holds}
 use Rattle.ctl_form.specs.declared.part.Part.{Part}
 use Rattle.ctl_form.specs.declared.part.Part.TheVariants.{Yes, No, Lit, Both, Either, Next, Until}
 use Rattle.ctl_form.proofs.Along.{along_from}
-use Rattle.ctl_form.proofs.Decided.{Decided}
 use Rattle.ctl_form.proofs.Rounds.{AreDecided}
 use Rattle.ctl_form.proofs.TruthDecided.{are_decided}
 use Rattle.ctl_form.proofs.Unfold.{greatest, stage_in}
-use Rattle.closure_sets.specs.ClosureParts.{ClosureParts, IsClosureParts, count, after, some_move}
+use Rattle.closure_sets.specs.ClosureParts.{ClosureParts, IsClosureParts, count, after}
 use Rattle.closure_sets.specs.Cover.{IsTrueAt}
 use Rattle.closure_sets.specs.Full.{Has, IsFull, MeetsPart}
 use Rattle.closure_sets.specs.Label.{part_of, form_of, is_wrong}
 use Rattle.closure_sets.proofs.Closures.{form_is, member_of}
 use Rattle.tableau_graph.specs.Graph.{Graph, IsGraph, IsSomeNext}
-use Rattle.deletion_rules.specs.Unravel.{Plan, target, target_at, row_at, IsPending, Pends, IsPassed, MovesOn, StaysWhilePending, Pursues, IsKeptBy, IsStep, IsUnravelled, RowsAreTrue}
+use Rattle.deletion_rules.specs.Unravel.{Plan, target, target_at, row_at, IsPending, Pends, MovesOn, StaysWhilePending, Pursues, IsKeptBy, IsStep, IsUnravelled, RowsAreTrue}
 use Rattle.deletion_rules.specs.declared.position.Position.{Position}
 use Rattle.deletion_rules.proofs.Pending.{decided_has, pending_case}
 use Rattle.deletion_rules.proofs.Plain.{IsPlainPart, right_part, past_true}

@@ -1,20 +1,15 @@
 -- What is unravelled from a tableau satisfies the conjuncts, and from a kept set something is.
-use Rattle.std.proofs.Common.{ℕ, ◌≡◌, ◌<◌, Bool, Option, Some, List, Contains, length, subst, sym, ap, ◌∙◌, slice_index_or}
+use Rattle.std.proofs.Common.{ℕ, ◌<◌, Contains, length, slice_index_or}
 use Rattle.std.proofs.lemmas.List.Elements.{Contains-get_or}
 use Rattle.std.proofs.lemmas.Option.{slice_get_within}
 use Rattle.pair_structure.specs.Structure.{Structure, IsOver}
 use Rattle.ctl_form.specs.Truth.{Holds}
-use Rattle.closure_sets.specs.Full.{Has}
 use Rattle.closure_sets.specs.Label.{form_of}
-use Rattle.tableau_graph.specs.Rules.{IsTableau}
 use Rattle.tableau_graph.specs.TableauParts.{TableauParts}
-use Rattle.tableau_graph.specs.Graph.{Graph, graph_of}
+use Rattle.tableau_graph.specs.Graph.{graph_of}
 use Rattle.tableau_graph.specs.Graph.{TableauIsGraph}
 use Rattle.tableau_graph.proofs.Expanded.{tableau_follows_arcs, tableau_starts}
-use Rattle.deletion_rules.specs.Deletion.{IsKept, LivesOr}
-use Rattle.deletion_rules.specs.Satisfying.{Satisfies, UnravelledSatisfies, KeptIsSatisfiable}
-use Rattle.deletion_rules.specs.Unravel.{Plan, IsUnravelled}
-use Rattle.deletion_rules.specs.declared.position.Position.{Position}
+use Rattle.deletion_rules.specs.Satisfying.{UnravelledSatisfies, KeptIsSatisfiable}
 use Rattle.deletion_rules.proofs.Existence.{plan, whole, unravelled, over, at}
 use Rattle.deletion_rules.proofs.Rows.{rows_are_true}
 

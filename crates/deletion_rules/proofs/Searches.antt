@@ -1,8 +1,7 @@
 -- Searches below a bound, and the next place in a round.
-use Rattle.std.proofs.Common.{ℕ, zero, suc, ◌≡◌, ◌⊎◌, ◌<◌, ◌≤◌, inl, inr, Bool, true, false, ◌&&◌, refl, subst, sym, arith, ◌∙◌}
-use Rattle.std.proofs.Math.Decide.{dec_lt, dec_le}
+use Rattle.std.proofs.Common.{ℕ, zero, suc, ◌≡◌, ◌⊎◌, ◌<◌, inl, inr, subst, arith}
+use Rattle.std.proofs.Math.Decide.{dec_lt}
 use Rattle.deletion_rules.specs.inside.Picking.{IsNextPlace}
-use Rattle.deletion_rules.specs.Unravel.{IsPassed}
 
 -- some number below n has the property, with none before it; or none has
 abbrev pub Found : (ℕ → Type 0) → ℕ → Type 0

@@ -1,5 +1,5 @@
 -- What the tests of the code say of children and successors in the words of the rules.
-use Rattle.std.proofs.Common.{ℕ, zero, suc, ◌≡◌, ◌⊎◌, ◌<◌, inl, inr, Bool, true, false, ◌||◌, ◌&&◌, cond, nat_lt, Option, Some, None, List, [], ◌∷◌, Contains, length, refl, subst, sym, ◌∙◌, ap, arith, slice_index_or}
+use Rattle.std.proofs.Common.{ℕ, zero, suc, ◌≡◌, ◌<◌, inl, inr, Bool, true, false, ◌||◌, ◌&&◌, List, [], ◌∷◌, Contains, length, refl, subst, sym, ◌∙◌, ap, arith, slice_index_or}
 use Rattle.std.proofs.lemmas.Bool.{and_parts, and_from, or_cases, or_left, or_right}
 use Rattle.std.specs.List.{list_any, list_all}
 use Rattle.std.proofs.Math.Decide.{dec_lt}
@@ -86,17 +86,18 @@ module _ (t : TableauParts) (k : IsTableau t) where
   pub successor_there : (n i h : ℕ) (side : Side) → IsSomeNext t.closure g n i side h → Contains (edges_at t.successors n) (g.next_or n i)
   successor_there n i h side some = let small = some.node in let all = k.all_ands in ((k.rules.successors n (omega (arith, small, all))).each i h side some.part some.member).0
 
-module _ (t : TableauParts) (k : IsTableau t) (lives : List Bool) where
+module _ (t : TableauParts) (lives : List Bool) where
   pub lives_or_out : (o : ℕ) → lives_or t lives o ≡ true → LivesOr (graph_of t) (lives_of lives) o
   lives_or_out o e = let u = any_out (lives_of lives) (edges_at t.children o) e in (u.0, u.1, u.2, tt)
 
   pub lives_or_in : (o : ℕ) → LivesOr (graph_of t) (lives_of lives) o → lives_or t lives o ≡ true
   lives_or_in o h = any_in (lives_of lives) (edges_at t.children o) h.0 h.1 h.2
 
+module _ (t : TableauParts) (k : IsTableau t) (lives : List Bool) where
   -- the same, by a list of the OR nodes that have a living child
   module _ (ors : List Bool) (h : AreLivingOrs t lives (length t.ors) ors) where
     pub lives_on_out : (n : ℕ) → n < length t.ands → lives_on t ors n ≡ true → (i h : ℕ) (side : Side) → IsSomeNext t.closure (graph_of t) n i side h → LivesOr (graph_of t) (lives_of lives) ((graph_of t).next_or n i)
-    lives_on_out n small e i j side some = let there = successor_there t k n i j side some in let o = (graph_of t).next_or n i in lives_or_out o (sym (h.each o (successor_within t k n o small there)) ∙ all_out (flag_of ors) (edges_at t.successors n) e o there)
+    lives_on_out n small e i j side some = let there = successor_there t k n i j side some in let o = (graph_of t).next_or n i in lives_or_out t lives o (sym (h.each o (successor_within t k n o small there)) ∙ all_out (flag_of ors) (edges_at t.successors n) e o there)
 
     pub lives_on_in : (n : ℕ) → n < length t.ands → ((i h : ℕ) (side : Side) → IsSomeNext t.closure (graph_of t) n i side h → LivesOr (graph_of t) (lives_of lives) ((graph_of t).next_or n i)) → lives_on t ors n ≡ true
-    lives_on_in n small f = all_in (flag_of ors) (edges_at t.successors n) (λ o there. let u = successor_hit t k n o small there in h.each o (successor_within t k n o small there) ∙ subst (λ x. lives_or t lives x ≡ true) u.4 (lives_or_in ((graph_of t).next_or n u.0) (f u.0 u.1 u.2 u.3)))
+    lives_on_in n small f = all_in (flag_of ors) (edges_at t.successors n) (λ o there. let u = successor_hit t k n o small there in h.each o (successor_within t k n o small there) ∙ subst (λ x. lives_or t lives x ≡ true) u.4 (lives_or_in t lives ((graph_of t).next_or n u.0) (f u.0 u.1 u.2 u.3)))

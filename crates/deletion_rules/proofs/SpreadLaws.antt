@@ -7,35 +7,29 @@ use Rattle.std.proofs.lemmas.List.{get_or_append_left, get_or_past, get_or_push,
 use Rattle.std.proofs.lemmas.List.Sums.{sum_by-append}
 use Rattle.std.proofs.lemmas.List.Elements.{Contains-append_left, Contains-append_right, Contains-push_cases}
 use Rattle.pair_structure.specs.declared.side.Side.{Side}
-use Rattle.pair_structure.specs.declared.side.Side.TheVariants.{A, B}
-use Rattle.ctl_form.specs.declared.part.Part.TheVariants.{Next, Until}
-use Rattle.closure_sets.specs.ClosureParts.{ClosureParts, IsClosureParts, after, some_move}
-use Rattle.closure_sets.specs.Full.{Has, IsFull}
+use Rattle.ctl_form.specs.declared.part.Part.TheVariants.{Until}
+use Rattle.closure_sets.specs.ClosureParts.{ClosureParts, after}
+use Rattle.closure_sets.specs.Full.{Has}
 use Rattle.closure_sets.specs.Label.{part_of}
-use Rattle.closure_sets.specs.Row.{Members}
 use Rattle.closure_sets.proofs.Closures.{after_part}
 use Rattle.tableau_graph.specs.Graph.{Graph, graph_of, IsGraph, IsSomeNext}
 use Rattle.tableau_graph.specs.Rules.{IsTableau}
 use Rattle.tableau_graph.specs.TableauParts.{TableauParts, edges_at}
 use Rattle.deletion_rules.specs.inside.Cursors.{flag_of, AreCursors}
-use Rattle.deletion_rules.specs.Deletion.{HasLower, Falls}
+use Rattle.deletion_rules.specs.Deletion.{HasLower, Falls, GoesOnBy}
 use Rattle.deletion_rules.specs.inside.Edges.{arrow_of, AreEdges}
 use Rattle.deletion_rules.specs.inside.Lists.{list_at}
-use Rattle.deletion_rules.specs.Marks.{lives_of, mark_at, open_count, rank_of, AreMarks, AreSound, IsSeen}
+use Rattle.deletion_rules.specs.Marks.{lives_of, mark_at, open_count, rank_of, AreMarks, IsSeen, IsMarkedBy}
 use Rattle.deletion_rules.specs.inside.Spread.{AreFirst, IsAdmitted, IsArrowTo, IsLed, IsLedBy, IsMarked, IsMetAt, IsParentOf, IsPassing, IsReaching, IsSpread, Reaching, Visits}
-use Rattle.deletion_rules.specs.Targets.{IsTarget}
+use Rattle.deletion_rules.specs.Targets.{IsTarget, target_with}
 use Rattle.deletion_rules.specs.Tests.{has_member, is_met}
 use Rattle.deletion_rules.specs.declared.edges.Arrow.{Arrow}
 use Rattle.deletion_rules.specs.declared.target.Target.{Target}
+use Rattle.deletion_rules.proofs.Basics.{no_some, some_same}
 use Rattle.deletion_rules.proofs.Seen.{all_out, successor_hit, successor_there}
 use Rattle.deletion_rules.proofs.Standing.{flag_within, no_yes}
 use Rattle.deletion_rules.proofs.Within.{next_below}
-
-some_same : {x y : ℕ} → ◌≡◌ {A = Option ℕ} (Some x) (Some y) → x ≡ y
-some_same e = cc
-
-no_some : {x : ℕ} → ◌≡◌ {A = Option ℕ} None (Some x) → ⊥
-no_some e = cc
+use Rattle.deletion_rules.proofs.Onward.{onward}
 
 open_none : (marks : List (Option ℕ)) → open_count (marks ++ None ∷ []) ≡ open_count marks + 1
 open_none marks = sum_by-append (λ (mark : Option ℕ). cond (is_none mark) 1 0) marks (None ∷ [])
@@ -59,25 +53,24 @@ not_all p (x ∷ xs) e = by (p x) refl e (λ f. not_all p xs f)
     by false q f again = (x, (0, omega arith, refl), q)
     by true q f again = let rest : list_all p xs ≡ false = subst (λ c. c && list_all p xs ≡ false) q f in let u = again rest in let c = u.1 in (u.0, (suc c.0, omega (arith, c.1), c.2), u.2)
 
--- a full row has some EXs h
-onward : (c : ClosureParts) → IsClosureParts c → (row : Members) → IsFull c row → (i : ℕ) × (h : ℕ) × (side : Side) × Has row i × (part_of c i ≡ Next false side h)
-onward c k row full = let m = k.moves in elim full.onward [ inl a ↦ (some_move c A, m.0, A, a, (m.3 A).1) | inr b ↦ (some_move c B, m.0, B, b, (m.3 B).1) ]
+-- what falls along ranks falls along others, where each OR node that has a lower rank by those has one by these
+falls_map : (c : ClosureParts) (g : Graph) (lives : ℕ → Bool) (rank more : ℕ → ℕ → Option ℕ) (all : Bool) (u f second r r' n : ℕ) → ((o : ℕ) → HasLower g lives rank u r o → HasLower g lives more u r' o) → Falls c g lives rank (target_with all u f second) r n → Falls c g lives more (target_with all u f second) r' n
+falls_map c g lives rank more all u f second r r' n up (inl y) = inl y
+falls_map c g lives rank more true u f second r r' n up (inr v) = inr (v.0, λ i h side some. up (g.next_or n i) (v.1 i h side some))
+falls_map c g lives rank more false u f second r r' n up (inr v) = inr (v.0, (v.1.0, v.1.1, up (g.next_or n (after c v.1.0 u)) v.1.2))
 
 -- more marks keep what falls
 module _ (c : ClosureParts) (g : Graph) (lives : ℕ → Bool) (marks more : List (Option ℕ)) (kept : (n r : ℕ) → mark_at marks n ≡ Some r → mark_at more n ≡ Some r) (u : ℕ) where
   lower_keeps : (r s o : ℕ) → r ≤ s → HasLower g lives (rank_of marks) u r o → HasLower g lives (rank_of more) u s o
   lower_keeps r s o le w = let m = w.3 in (w.0, w.1, w.2, (m.0, kept w.0 m.0 m.1, (let lt = m.2 in omega (arith, lt, le))))
 
-  falls_keeps : (all : Bool) (f second r n : ℕ) → Falls c g lives (rank_of marks) all u f second r n → Falls c g lives (rank_of more) all u f second r n
-  falls_keeps true f second r n (inl y) = inl y
-  falls_keeps true f second r n (inr v) = inr (v.0, λ i h side some. lower_keeps r r (g.next_or n i) (omega arith) (v.1 i h side some))
-  falls_keeps false f second r n (inl y) = inl y
-  falls_keeps false f second r n (inr v) = inr (v.0, (v.1.0, v.1.1, lower_keeps r r (g.next_or n (after c v.1.0 u)) (omega arith) v.1.2))
+  falls_keeps : (all : Bool) (f second r n : ℕ) → Falls c g lives (rank_of marks) (target_with all u f second) r n → Falls c g lives (rank_of more) (target_with all u f second) r n
+  falls_keeps all f second r n x = falls_map c g lives (rank_of marks) (rank_of more) all u f second r r n (λ o y. lower_keeps r r o (omega arith) y) x
 
-  seen_keeps : (all : Bool) (f second r n : ℕ) → IsSeen c g lives marks all u f second r n → IsSeen c g lives more all u f second r n
+  seen_keeps : (all : Bool) (f second r n : ℕ) → IsSeen c g lives marks (target_with all u f second) r n → IsSeen c g lives more (target_with all u f second) r n
   seen_keeps all f second r n s = record { living = s.living; member = s.member; falls = falls_keeps all f second r n s.falls }
 
-falls_met : (c : ClosureParts) (g : Graph) (lives : ℕ → Bool) (rank : ℕ → ℕ → Option ℕ) (all : Bool) (u f second r n : ℕ) → Has (g.row n) second → Falls c g lives rank all u f second r n
+falls_met : (c : ClosureParts) (g : Graph) (lives : ℕ → Bool) (rank : ℕ → ℕ → Option ℕ) (all : Bool) (u f second r n : ℕ) → Has (g.row n) second → Falls c g lives rank (target_with all u f second) r n
 falls_met c g lives rank true u f second r n has = inl has
 falls_met c g lives rank false u f second r n has = inl has
 
@@ -89,7 +82,7 @@ module _ (t : TableauParts) (k : IsTableau t) (lives : List Bool) (long : length
   living_below n e = let lt = flag_within lives n e in omega (arith, lt, long)
 
   -- where OR nodes that are reached have lower children, a node that is led on falls
-  falls_led : (all : Bool) (reached : List Bool) (marks : List (Option ℕ)) (u f second r n : ℕ) → ((o : ℕ) → flag_of reached o ≡ true → HasLower g (lives_of lives) (rank_of marks) u r o) → Has (g.row n) f → IsLed t reached all u n → Falls t.closure g (lives_of lives) (rank_of marks) all u f second r n
+  falls_led : (all : Bool) (reached : List Bool) (marks : List (Option ℕ)) (u f second r n : ℕ) → ((o : ℕ) → flag_of reached o ≡ true → HasLower g (lives_of lives) (rank_of marks) u r o) → Has (g.row n) f → IsLed t reached all u n → Falls t.closure g (lives_of lives) (rank_of marks) (target_with all u f second) r n
   falls_led true reached marks u f second r n lower has led = inr (has, λ i h side some. lower (g.next_or n i) (led i h side some))
   falls_led false reached marks u f second r n lower has led = inr (has, (led.0, led.1, lower (g.next_or n (after t.closure led.0 u)) led.2))
 
@@ -99,12 +92,27 @@ module _ (t : TableauParts) (k : IsTableau t) (lives : List Bool) (long : length
     not_led true u n small led = let w = onward t.closure k.rules.closure (g.row n) (ok.full n small) in none (g.next_or n w.0) (led w.0 w.1 w.2 (record { node = small; member = w.3; part = w.4 }))
     not_led false u n small led = none (g.next_or n (after t.closure led.0 u)) led.2
 
+    -- nothing is below 0
+    not_lower : (all : Bool) (u n : ℕ) → n < length t.ands → GoesOnBy t.closure g all u n (HasLower g (lives_of lives) (rank_of marks) u 0) → ⊥
+    not_lower true u n small v = let w = onward t.closure k.rules.closure (g.row n) (ok.full n small) in let z = v w.0 w.1 w.2 (record { node = small; member = w.3; part = w.4 }) in (let lt = z.3.2 in omega (arith, lt))
+    not_lower false u n small v = let lt = v.2.3.2 in omega (arith, lt)
+
+    met_at : (n : ℕ) → IsSeen t.closure (graph_of t) (lives_of lives) marks target 0 n → IsMetAt t lives target n
+    met_at n x = elim x.falls [ inl y ↦ record { living = x.living; member = x.member; g = y } | inr v ↦ absurd (not_lower target.all target.member n (living_below n x.living) v.1) ]
+
+    at_once : (n r : ℕ) → r < 1 → IsSeen t.closure (graph_of t) (lives_of lives) marks target r n → IsMarkedBy marks r n
+    at_once n r lt x =
+        let zeroth : r ≡ 0 = omega (arith, lt) in
+        let y = met_at n (subst (λ j. IsSeen t.closure (graph_of t) (lives_of lives) marks target j n) zeroth x) in
+        let m = h.met n (living_below n y.living) y in
+        (m.0, (let e = (h.only n m.0 m.1).0 in omega (arith, e)), m.1)
+
     pub spread_first : length reached ≡ length t.ors → IsSpread t lives target 1 marks reached nodes
     spread_first long_reached = record {
       sound = record {
         long = h.long;
         below = λ n r e. (let q = (h.only n r e).0 in omega (arith, q));
-        seen = λ n r e. (let m = (h.only n r e).1 in record { living = m.living; member = m.member; falls = falls_met t.closure g (lives_of lives) (rank_of marks) target.all target.member target.f target.g r n m.second });
+        seen = λ n r e. (let m = (h.only n r e).1 in record { living = m.living; member = m.member; falls = falls_met t.closure g (lives_of lives) (rank_of marks) target.all target.member target.f target.g r n m.g });
       };
       listed = h.listed;
       long = long_reached;
@@ -112,28 +120,37 @@ module _ (t : TableauParts) (k : IsTableau t) (lives : List Bool) (long : length
       caught = λ o n small there m. inr (h.only n m.0 m.1).2;
       met = λ n m. h.met n (living_below n m.living) m;
       passing = λ n p. absurd (not_led target.all target.member n (living_below n p.living) p.led);
+      prompt = at_once;
     }
 
   -- the last round
   module _ (is_target : IsTarget t.closure target) (round : ℕ) (marks : List (Option ℕ)) (reached : List Bool) (nodes : List ℕ) (s : IsSpread t lives target round marks reached nodes) where
+    -- what falls is met, or led on by flags that catch what has lower marks
+    led_of : (now : List Bool) → ((o : ℕ) → o < length t.ors → HasLower g (lives_of lives) (rank_of marks) target.member round o → flag_of now o ≡ true) → (all : Bool) (f second n : ℕ) → n < length t.ands → target.all ≡ all → Falls t.closure g (lives_of lives) (rank_of marks) (target_with all target.member f second) round n → Has (g.row n) second ⊎ (Has (g.row n) f × IsLed t now all target.member n)
+    led_of now caught true f second n small e (inl y) = inl y
+    led_of now caught true f second n small e (inr v) = inr (v.0, λ i h side some. caught (g.next_or n i) (next_below t k n i h side small some.part some.member) (v.1 i h side some))
+    led_of now caught false f second n small e (inl y) = inl y
+    led_of now caught false f second n small e (inr v) =
+        let side = v.1.0 in
+        let part : part_of t.closure target.member ≡ Until false false target.f target.g = subst (λ b. part_of t.closure target.member ≡ Until b false target.f target.g) e is_target.part in
+        inr (v.0, (side, v.1.1, caught (g.next_or n (after t.closure side target.member)) (next_below t k n (after t.closure side target.member) target.member side small (after_part t.closure k.rules.closure target.member target.f target.g false false side part) v.1.1) v.1.2))
+
+    -- all marks are below the round
+    cut : (r n : ℕ) → IsSeen t.closure (graph_of t) (lives_of lives) marks target r n → IsSeen t.closure (graph_of t) (lives_of lives) marks target round n
+    cut r n x = record { living = x.living; member = x.member; falls = falls_map t.closure g (lives_of lives) (rank_of marks) (rank_of marks) target.all target.member target.f target.g r round n (λ o v. let m = v.3 in (v.0, v.1, v.2, (m.0, m.1, s.sound.below v.0 m.0 m.1))) x.falls }
+
     module _ (empty : length nodes ≤ 0) where
       caught_all : (o : ℕ) → o < length t.ors → HasLower g (lives_of lives) (rank_of marks) target.member round o → flag_of reached o ≡ true
       caught_all o small w = elim (s.caught o w.0 small w.1 (w.3.0, w.3.1)) [ inl e ↦ e | inr c ↦ absurd (let lt = c.1 in omega (arith, lt, empty)) ]
 
-      led_of : (all : Bool) (f second n : ℕ) → n < length t.ands → target.all ≡ all → Falls t.closure g (lives_of lives) (rank_of marks) all target.member f second round n → Has (g.row n) second ⊎ (Has (g.row n) f × IsLed t reached all target.member n)
-      led_of true f second n small e (inl y) = inl y
-      led_of true f second n small e (inr v) = inr (v.0, λ i h side some. caught_all (g.next_or n i) (next_below t k n i h side small some.part some.member) (v.1 i h side some))
-      led_of false f second n small e (inl y) = inl y
-      led_of false f second n small e (inr v) =
-          let side = v.1.0 in
-          let part : part_of t.closure target.member ≡ Until false false target.f target.g = subst (λ b. part_of t.closure target.member ≡ Until b false target.f target.g) e is_target.part in
-          inr (v.0, (side, v.1.1, caught_all (g.next_or n (after t.closure side target.member)) (next_below t k n (after t.closure side target.member) target.member side small (after_part t.closure k.rules.closure target.member target.f target.g false false side part) v.1.1) v.1.2))
+      marked_at : (n : ℕ) → IsSeen t.closure (graph_of t) (lives_of lives) marks target round n → IsMarked marks n
+      marked_at n seen = elim (led_of reached caught_all target.all target.f target.g n (living_below n seen.living) refl seen.falls) [ inl y ↦ s.met n (record { living = seen.living; member = seen.member; g = y }) | inr v ↦ s.passing n (record { living = seen.living; member = seen.member; f = v.0; led = v.1 }) ]
 
-      pub spread_done : AreMarks t.closure (graph_of t) (lives_of lives) target.all target.member target.f target.g marks
+      pub spread_done : AreMarks t.closure (graph_of t) (lives_of lives) target marks
       spread_done = record { round = round; sound = s.sound; full = full }
         where
-          full : (n : ℕ) → IsSeen t.closure (graph_of t) (lives_of lives) marks target.all target.member target.f target.g round n → (r : ℕ) × (mark_at marks n ≡ Some r)
-          full n seen = elim (led_of target.all target.f target.g n (living_below n seen.living) refl seen.falls) [ inl y ↦ s.met n (record { living = seen.living; member = seen.member; second = y }) | inr v ↦ s.passing n (record { living = seen.living; member = seen.member; first = v.0; led = v.1 }) ]
+          full : (n r : ℕ) → IsSeen t.closure (graph_of t) (lives_of lives) marks target r n → IsMarkedBy marks r n
+          full n r seen = elim (dec_lt r round) [ yes lt ↦ s.prompt n r lt seen | no past ↦ (let m = marked_at n (cut r n seen) in let b = s.sound.below n m.0 m.1 in (m.0, omega (arith, b, past), m.1)) ]
 
     -- one more round
     module _ (parents : List (List ℕ)) (arrows : List (List Arrow)) (edges : AreEdges t parents arrows) where
@@ -173,7 +190,7 @@ module _ (t : TableauParts) (k : IsTableau t) (lives : List Bool) (long : length
         IsVisited n = IsMarked marks n ⊎ ((arrow : Arrow) × IsArrowTo arrows ors arrow × IsAdmitted t lives now target arrow × (arrow.node ≡ n))
 
         visited_at : (n i h : ℕ) (side : Side) → IsPassing t lives now target n → IsSomeNext t.closure g n i side h → Contains ors (g.next_or n i) → IsLedBy t now target.all target.member (arrow_of n i) → IsVisited n
-        visited_at n i h side p some c led = inr (arrow_of n i, (g.next_or n i, c, edges.back.all n i (g.next_or n i) some.node ((h, side, some), refl)), record { living = p.living; member = p.member; first = p.first; led = led }, refl)
+        visited_at n i h side p some c led = inr (arrow_of n i, (g.next_or n i, c, edges.back.all n i (g.next_or n i) some.node ((h, side, some), refl)), record { living = p.living; member = p.member; f = p.f; led = led }, refl)
 
         visited : (all : Bool) (n : ℕ) → target.all ≡ all → IsPassing t lives now target n → IsLed t now all target.member n → IsVisited n
         visited false n e p led =
@@ -181,11 +198,11 @@ module _ (t : TableauParts) (k : IsTableau t) (lives : List Bool) (long : length
             let i = after t.closure side target.member in
             let part : part_of t.closure target.member ≡ Until false false target.f target.g = subst (λ b. part_of t.closure target.member ≡ Until b false target.f target.g) e is_target.part in
             let some : IsSomeNext t.closure g n i side target.member = record { node = living_below n p.living; member = led.1; part = after_part t.closure k.rules.closure target.member target.f target.g false false side part } in
-            elim (r.only (g.next_or n i) led.2) [ inl old ↦ inl (s.passing n (record { living = p.living; member = p.member; first = p.first; led = subst (λ b. IsLed t reached b target.member n) (sym e) (side, led.1, old) })) | inr new ↦ visited_at n i target.member side p some new.1 (subst (λ b. IsLedBy t now b target.member (arrow_of n i)) (sym e) (side, refl)) ]
+            elim (r.only (g.next_or n i) led.2) [ inl old ↦ inl (s.passing n (record { living = p.living; member = p.member; f = p.f; led = subst (λ b. IsLed t reached b target.member n) (sym e) (side, led.1, old) })) | inr new ↦ visited_at n i target.member side p some new.1 (subst (λ b. IsLedBy t now b target.member (arrow_of n i)) (sym e) (side, refl)) ]
         visited true n e p led = by (list_all (flag_of reached) (edges_at t.successors n)) refl
           where
             by : (b : Bool) → list_all (flag_of reached) (edges_at t.successors n) ≡ b → IsVisited n
-            by true q = inl (s.passing n (record { living = p.living; member = p.member; first = p.first; led = subst (λ b. IsLed t reached b target.member n) (sym e) (λ i h side some. all_out (flag_of reached) (edges_at t.successors n) q (g.next_or n i) (successor_there t k n i h side some)) }))
+            by true q = inl (s.passing n (record { living = p.living; member = p.member; f = p.f; led = subst (λ b. IsLed t reached b target.member n) (sym e) (λ i h side some. all_out (flag_of reached) (edges_at t.successors n) q (g.next_or n i) (successor_there t k n i h side some)) }))
             by false q =
                 let x = not_all (flag_of reached) (edges_at t.successors n) q in
                 let u = successor_hit t k n x.0 (living_below n p.living) x.1 in
@@ -200,7 +217,8 @@ module _ (t : TableauParts) (k : IsTableau t) (lives : List Bool) (long : length
             lower = λ o e. lower_keeps t.closure g (lives_of lives) marks next v.kept target.member round (round + 1) o (omega arith) (lower_now o e);
             caught = λ o n small there m. elim (v.added n m.0 m.1) [ inl old ↦ inl (caught_now o n small there (m.0, old)) | inr a ↦ inr a.2 ];
             met = λ n m. keeps n (s.met n m);
-            passing = λ n p. elim (visited target.all n refl p p.led) [ inl m ↦ keeps n m | inr a ↦ subst (IsMarked next) a.3 (v.all a.0 a.1 a.2) ];
+            passing = passing;
+            prompt = prompt;
           }
             where
               keeps : (n : ℕ) → IsMarked marks n → IsMarked next n
@@ -209,8 +227,30 @@ module _ (t : TableauParts) (k : IsTableau t) (lives : List Bool) (long : length
               below : (n r : ℕ) → mark_at next n ≡ Some r → r < round + 1
               below n r e = elim (v.added n r e) [ inl old ↦ (let lt = s.sound.below n r old in omega (arith, lt)) | inr a ↦ (let q = a.0 in omega (arith, q)) ]
 
-              seen : (n r : ℕ) → mark_at next n ≡ Some r → IsSeen t.closure g (lives_of lives) next target.all target.member target.f target.g r n
-              seen n r e = elim (v.added n r e) [ inl old ↦ seen_keeps t.closure g (lives_of lives) marks next v.kept target.member target.all target.f target.g r n (s.sound.seen n r old) | inr a ↦ subst (λ x. IsSeen t.closure g (lives_of lives) next target.all target.member target.f target.g x n) (sym a.0) (seen_keeps t.closure g (lives_of lives) marks next v.kept target.member target.all target.f target.g round n (record { living = a.1.living; member = a.1.member; falls = falls_led target.all now marks target.member target.f target.g round n lower_now a.1.first a.1.led })) ]
+              seen : (n r : ℕ) → mark_at next n ≡ Some r → IsSeen t.closure g (lives_of lives) next target r n
+              seen n r e = elim (v.added n r e) [ inl old ↦ seen_keeps t.closure g (lives_of lives) marks next v.kept target.member target.all target.f target.g r n (s.sound.seen n r old) | inr a ↦ subst (λ x. IsSeen t.closure g (lives_of lives) next target x n) (sym a.0) (seen_keeps t.closure g (lives_of lives) marks next v.kept target.member target.all target.f target.g round n (record { living = a.1.living; member = a.1.member; falls = falls_led target.all now marks target.member target.f target.g round n lower_now a.1.f a.1.led })) ]
+
+              passing : (n : ℕ) → IsPassing t lives now target n → IsMarked next n
+              passing n p = elim (visited target.all n refl p p.led) [ inl m ↦ (m.0, v.kept n m.0 m.1) | inr a ↦ subst (IsMarked next) a.3 (v.all a.0 a.1 a.2) ]
+
+              -- marks up to the round are old
+              old_lower : (r o : ℕ) → r ≤ round → HasLower g (lives_of lives) (rank_of next) target.member r o → HasLower g (lives_of lives) (rank_of marks) target.member r o
+              old_lower r o le x = let m = x.3 in (x.0, x.1, x.2, (m.0, elim (v.added x.0 m.0 m.1) [ inl old ↦ old | inr a ↦ absurd (let e = a.0 in let lt = m.2 in omega (arith, e, lt, le)) ], m.2))
+
+              old_seen : (r n : ℕ) → r ≤ round → IsSeen t.closure (graph_of t) (lives_of lives) next target r n → IsSeen t.closure (graph_of t) (lives_of lives) marks target r n
+              old_seen r n le x = record { living = x.living; member = x.member; falls = falls_map t.closure g (lives_of lives) (rank_of next) (rank_of marks) target.all target.member target.f target.g r r n (λ o y. old_lower r o le y) x.falls }
+
+              caught_lower : (o : ℕ) → o < length t.ors → HasLower g (lives_of lives) (rank_of marks) target.member round o → flag_of now o ≡ true
+              caught_lower o small x = caught_now o x.0 small x.1 (x.3.0, x.3.1)
+
+              fresh_mark : (n : ℕ) → IsSeen t.closure (graph_of t) (lives_of lives) marks target round n → IsMarked next n
+              fresh_mark n x = elim (led_of now caught_lower target.all target.f target.g n (living_below n x.living) refl x.falls) [ inl y ↦ (let m = s.met n (record { living = x.living; member = x.member; g = y }) in (m.0, v.kept n m.0 m.1)) | inr z ↦ passing n (record { living = x.living; member = x.member; f = z.0; led = z.1 }) ]
+
+              prompt : (n r : ℕ) → r < round + 1 → IsSeen t.closure (graph_of t) (lives_of lives) next target r n → IsMarkedBy next r n
+              prompt n r lt x = elim (dec_lt r round) [
+                | yes l ↦ (let m = s.prompt n r l (old_seen r n (omega (arith, lt)) x) in (m.0, m.1, v.kept n m.0 m.2))
+                | no past ↦ (let e : r ≡ round = omega (arith, lt, past) in let m = fresh_mark n (subst (λ j. IsSeen t.closure (graph_of t) (lives_of lives) marks target j n) e (old_seen r n (omega (arith, lt)) x)) in let b = below n m.0 m.1 in (m.0, omega (arith, b, e), m.1))
+              ]
 
 -- no flag of the list is set
 pub none_reached : (flags : List Bool) (n : ℕ) → flags ≡ replicate n false → (o : ℕ) → flag_of flags o ≡ true → ⊥
@@ -240,7 +280,7 @@ module _ (t : TableauParts) (lives : List Bool) (target : Target) (k : ℕ) (mar
   first_yes new is e f = subst (AreFirst t lives target (k + 1) more) (sym f) (record { long = grown_long (Some 0) e; met = met; only = only; listed = listed; fewer = fewer })
     where
       here : IsMetAt t lives target k
-      here = let a = and_parts (lives_of lives k && has_member t k target.member) (has_member t k target.g) is in let b = and_parts (lives_of lives k) (has_member t k target.member) a.0 in record { living = b.0; member = b.1; second = a.1 }
+      here = let a = and_parts (lives_of lives k && has_member t k target.member) (has_member t k target.g) is in let b = and_parts (lives_of lives k) (has_member t k target.member) a.0 in record { living = b.0; member = b.1; g = a.1 }
 
       met : (n : ℕ) → n < k + 1 → IsMetAt t lives target n → IsMarked more n
       met n lt m = elim (dec_lt n k) [ yes b ↦ kept (Some 0) e n (h.met n b m) | no o ↦ (let q : k ≡ n = omega (arith, lt, o) in subst (IsMarked more) q (0, grown_here (Some 0) e)) ]
@@ -258,7 +298,7 @@ module _ (t : TableauParts) (lives : List Bool) (target : Target) (k : ℕ) (mar
   first_no is e = record { long = grown_long None e; met = met; only = only; listed = λ n c. kept None e n (h.listed n c); fewer = fewer }
     where
       never : IsMetAt t lives target k → ⊥
-      never m = no_yes (sym is ∙ and_from (lives_of lives k && has_member t k target.member) (has_member t k target.g) (and_from (lives_of lives k) (has_member t k target.member) m.living m.member) m.second)
+      never m = no_yes (sym is ∙ and_from (lives_of lives k && has_member t k target.member) (has_member t k target.g) (and_from (lives_of lives k) (has_member t k target.member) m.living m.member) m.g)
 
       met : (n : ℕ) → n < k + 1 → IsMetAt t lives target n → IsMarked more n
       met n lt m = elim (dec_lt n k) [ yes b ↦ kept None e n (h.met n b m) | no o ↦ (let q : n ≡ k = omega (arith, lt, o) in absurd (never (subst (IsMetAt t lives target) q m))) ]

@@ -1,5 +1,5 @@
 -- What stands in a list before a place, and flags of a list.
-use Rattle.std.proofs.Common.{ℕ, suc, ◌≡◌, ◌≢◌, ◌⊎◌, ◌<◌, ◌≤◌, ◌+◌, inl, inr, Bool, true, false, List, Contains, length, length-set, refl, subst, sym, ◌∙◌, ap, arith, eqb, slice_index, slice_index_or, slice_set, ◌↔◌, IsTrue}
+use Rattle.std.proofs.Common.{ℕ, ◌≡◌, ◌≢◌, ◌⊎◌, ◌<◌, ◌≤◌, ◌+◌, inl, inr, Bool, true, false, List, Contains, length, length-set, subst, sym, ◌∙◌, ap, arith, eqb, slice_index, slice_index_or, slice_set, ◌↔◌, IsTrue}
 use Rattle.std.proofs.Math.Decide.{dec_lt, ℕ_discrete}
 use Rattle.std.proofs.Math.Bool.{beq}
 use Rattle.std.proofs.lemmas.Bool.{cases_lt, eq-eqb, eqb-true}

@@ -1,8 +1,7 @@
 -- Deletion of nodes of which a successor has no living child: each step is lawful.
-use Rattle.std.proofs.Common.{ℕ, ◌≡◌, ◌≢◌, ◌⊎◌, ◌<◌, ◌≤◌, ◌+◌, ◌++◌, inl, inr, Bool, true, false, not, cond, List, [], ◌∷◌, Contains, length, length-append, length-set, refl, subst, sym, ◌∙◌, ap, arith, count_by, replicate, slice_index, slice_index_or, slice_set, ◌↔◌, IsTrue}
+use Rattle.std.proofs.Common.{ℕ, ◌≡◌, ◌⊎◌, ◌<◌, ◌+◌, ◌++◌, inl, inr, Bool, true, false, not, cond, List, [], ◌∷◌, Contains, length, length-append, length-set, refl, subst, sym, ◌∙◌, ap, arith, count_by, replicate, slice_index, slice_set}
 use Rattle.std.proofs.Math.Decide.{ℕ_discrete}
-use Rattle.std.proofs.lemmas.Bool.{cases_lt}
-use Rattle.std.proofs.lemmas.List.{get_or_past, get_or-replicate, length-replicate}
+use Rattle.std.proofs.lemmas.List.{get_or-replicate, length-replicate}
 use Rattle.std.proofs.lemmas.List.Elements.{Contains-push_cases}
 use Rattle.std.proofs.lemmas.List.Sums.{sum_by-set}
 use Rattle.tableau_graph.specs.Graph.{graph_of, IsGraph, ChildrenCover}

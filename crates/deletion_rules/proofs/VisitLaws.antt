@@ -1,12 +1,11 @@
 -- Nodes are visited along arrows, one after the other.
-use Rattle.std.proofs.Common.{ℕ, ◌≡◌, ◌≢◌, ◌⊎◌, ◌<◌, ◌≤◌, ◌+◌, ◌++◌, inl, inr, Bool, true, false, cond, Option, Some, None, List, [], ◌∷◌, Contains, length, length-append, length-set, refl, subst, sym, ◌∙◌, ap, arith, count_by, is_none, is_some, slice_index_or, slice_set, ◌&&◌, ◌↔◌, IsTrue}
+use Rattle.std.proofs.Common.{ℕ, ◌≡◌, ◌≢◌, ◌⊎◌, ◌<◌, ◌≤◌, ◌+◌, ◌++◌, inl, inr, Bool, true, false, cond, Option, Some, None, List, [], ◌∷◌, Contains, length, length-append, length-set, refl, subst, sym, ◌∙◌, arith, is_none, is_some, slice_index_or, slice_set, ◌&&◌, ◌↔◌, IsTrue}
 use Rattle.std.proofs.lemmas.Bool.{and_parts}
 use Rattle.std.proofs.Math.Decide.{ℕ_discrete}
 use Rattle.std.proofs.lemmas.Grind.{get_or_default_zero}
 use Rattle.std.proofs.lemmas.List.{get_or_default, get_or-set_same, get_or-set_other}
 use Rattle.std.proofs.lemmas.List.Elements.{Contains-append_left, Contains-append_right, Contains-push_cases}
 use Rattle.std.proofs.lemmas.List.Sums.{sum_by-set}
-use Rattle.pair_structure.specs.declared.side.Side.{Side}
 use Rattle.closure_sets.specs.ClosureParts.{after}
 use Rattle.closure_sets.specs.Full.{Has}
 use Rattle.tableau_graph.specs.Graph.{graph_of}
@@ -19,8 +18,9 @@ use Rattle.deletion_rules.specs.inside.Spread.{IsAdmitted, IsArrowTo, IsLed, IsL
 use Rattle.deletion_rules.specs.Tests.{has_member}
 use Rattle.deletion_rules.specs.declared.edges.Arrow.{Arrow}
 use Rattle.deletion_rules.specs.declared.target.Target.{Target}
+use Rattle.deletion_rules.proofs.Basics.{no_some, some_same}
 use Rattle.deletion_rules.proofs.Seen.{successor_hit, successor_there}
-use Rattle.deletion_rules.proofs.Standing.{no_yes, none_before, stands_all, stands_cases, stands_here, stands_in, stands_more}
+use Rattle.deletion_rules.proofs.Standing.{no_yes, none_before, stands_all, stands_cases}
 
 -- one mark more is one node less that lacks one
 open_set : (marks : List (Option ℕ)) (i r : ℕ) → i < length marks → mark_at marks i ≡ None → open_count (slice_set marks i (Some r)) + 1 ≡ open_count marks
@@ -34,12 +34,6 @@ set_here marks i r lt = get_or-set_same marks i (Some r) None lt
 
 set_other : (marks : List (Option ℕ)) (i j r : ℕ) → j ≢ i → mark_at (slice_set marks i (Some r)) j ≡ mark_at marks j
 set_other marks i j r ne = get_or-set_other marks i j (Some r) None ne
-
-some_same : {x y : ℕ} → ◌≡◌ {A = Option ℕ} (Some x) (Some y) → x ≡ y
-some_same e = cc
-
-no_some : {x : ℕ} → ◌≡◌ {A = Option ℕ} None (Some x) → ⊥
-no_some e = cc
 
 -- an arrow to one of the first k OR nodes of a list
 abbrev pub IsArrowBefore : List (List Arrow) → List ℕ → ℕ → Arrow → Type 0
@@ -126,7 +120,7 @@ led_passes t reached false u arrow to led =
     (led.0, subst (λ i. Has ((graph_of t).row arrow.node) i) led.1 some.member, subst (λ i. flag_of reached ((graph_of t).next_or arrow.node i) ≡ true) led.1 o)
 
 pub admitted_passes : (t : TableauParts) (lives reached : List Bool) (target : Target) (arrow : Arrow) → IsReaching t reached arrow → IsAdmitted t lives reached target arrow → IsPassing t lives reached target arrow.node
-admitted_passes t lives reached target arrow to h = record { living = h.living; member = h.member; first = h.first; led = led_passes t reached target.all target.member arrow to h.led }
+admitted_passes t lives reached target arrow to h = record { living = h.living; member = h.member; f = h.f; led = led_passes t reached target.all target.member arrow to h.led }
 
 -- what the code tests, where each successor has to be reached
 pub each_admits : (t : TableauParts) → IsTableau t → (lives reached : List Bool) (target : Target) (arrow : Arrow) (items : List ℕ) (b : Bool) → IsReaching t reached arrow → lives_of lives arrow.node ≡ true → has_member t arrow.node target.member && has_member t arrow.node target.f ≡ true → target.all ≡ true → items ≡ edges_at t.successors arrow.node → IsTrue b ↔ EachIs reached true items → IsTrue b ↔ IsAdmitted t lives reached target arrow
@@ -139,7 +133,7 @@ each_admits t k lives reached target arrow items b to living has every e through
     led f i h side some = f ((graph_of t).next_or arrow.node i) (subst (λ (l : List ℕ). Contains l ((graph_of t).next_or arrow.node i)) (sym e) (successor_there t k arrow.node i h side some))
 
     yes_way : IsTrue b → IsAdmitted t lives reached target arrow
-    yes_way y = let m = and_parts (has_member t arrow.node target.member) (has_member t arrow.node target.f) has in record { living = living; member = m.0; first = m.1; led = subst (λ a. IsLedBy t reached a target.member arrow) (sym every) (led (through.0 y)) }
+    yes_way y = let m = and_parts (has_member t arrow.node target.member) (has_member t arrow.node target.f) has in record { living = living; member = m.0; f = m.1; led = subst (λ a. IsLedBy t reached a target.member arrow) (sym every) (led (through.0 y)) }
 
     each : IsLed t reached true target.member arrow.node → EachIs reached true items
     each f o there = let u = successor_hit t k arrow.node o small (subst (λ (l : List ℕ). Contains l o) e there) in subst (λ x. flag_of reached x ≡ true) u.4 (f u.0 u.1 u.2 u.3)

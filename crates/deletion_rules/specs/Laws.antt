@@ -1,5 +1,5 @@
 -- The laws of deletion.
-use Rattle.std.specs.Prelude.{ℕ, ◌≡◌, ◌⊎◌, ◌<◌, Bool, true, false, Contains, length}
+use Rattle.std.specs.Prelude.{ℕ, ◌≡◌, ◌⊎◌, ◌<◌, Bool, true, false, length}
 use Rattle.pair_structure.specs.Role.{RoleParts}
 use Rattle.pair_structure.specs.Structure.{IsOver, Structure}
 use Rattle.closure_sets.specs.ClosureParts.{ClosureParts, IsClosureParts}
@@ -7,6 +7,7 @@ use Rattle.closure_sets.specs.Cover.{HoldsWhole}
 use Rattle.tableau_graph.specs.Graph.{Graph, IsGraph, ChildrenCover, RootCovers}
 use Rattle.deletion_rules.specs.Deletion.{Fulfilled, IsStrong, IsSupported, LivesOr}
 use Rattle.deletion_rules.specs.Met.{Meets, MetLive, RoundOf}
+use Rattle.deletion_rules.specs.declared.target.Target.{Target}
 
 -- A node that a state meets is supported, where all that is met lives.
 abbrev pub MetAreSupported : Type 0
@@ -16,7 +17,7 @@ MetAreSupported = (a b : RoleParts) (c : ClosureParts) → IsClosureParts c → 
 -- The rank of A[f U g] at a node is at most its depth at a state that meets the node, and that of E[f U g] at most its least path.
 abbrev pub RanksAreBounded : Type 0
 RanksAreBounded = (a b : RoleParts) (c : ClosureParts) → IsClosureParts c → (g : Graph) → IsGraph c g → ChildrenCover a b c g → (lives : ℕ → Bool) → MetLive a b c g lives
-    → (m : Structure) → IsOver a b m → (s n : ℕ) → s < length m.states → Meets m c g s n → (u f second : ℕ) (all : Bool) → IsStrong c g n u all f second → (k : ℕ) → RoundOf m c all f second k s → Fulfilled c g lives all u f second k n
+    → (m : Structure) → IsOver a b m → (s n : ℕ) → s < length m.states → Meets m c g s n → (u : Target) → IsStrong c g n u → (k : ℕ) → RoundOf m c u.all u.f u.g k s → Fulfilled c g lives u k n
 
 -- the nodes that are gone were gone before, or are not supported
 abbrev pub GoneFor : ClosureParts → Graph → (ℕ → Bool) → (ℕ → Bool) → Type 0

@@ -1,13 +1,15 @@
 -- Marks of a strong until: where it is fulfilled, and in which round that was seen.
-use Rattle.std.specs.Prelude.{ℕ, ◌≡◌, ◌⊎◌, ◌<◌, ◌+◌, ◌≤◌, Bool, true, false, Option, Some, None, List, [], length, slice_index_or, is_none, count_by, map}
+use Rattle.std.specs.Prelude.{ℕ, ◌≡◌, ◌⊎◌, ◌<◌, ◌≤◌, Bool, true, false, Option, Some, None, List, [], length, slice_index_or, is_none, count_by, map}
 use Rattle.std.specs.Global.{Vec}
 use Rattle.ctl_form.specs.declared.part.Part.TheVariants.{Until}
-use Rattle.closure_sets.specs.ClosureParts.{ClosureParts, count}
+use Rattle.closure_sets.specs.ClosureParts.{ClosureParts}
 use Rattle.closure_sets.specs.Full.{Has}
 use Rattle.closure_sets.specs.Label.{part_of}
 use Rattle.tableau_graph.specs.Graph.{Graph, IsSomeNext}
 use Rattle.pair_structure.specs.declared.side.Side.{Side}
 use Rattle.deletion_rules.specs.Deletion.{Falls, IsStrong, IsSupported, LivesOr}
+use Rattle.deletion_rules.specs.Targets.{target_with}
+use Rattle.deletion_rules.specs.declared.target.Target.{Target}
 
 -- whether the node lives, by a list of truth values
 abbrev pub lives_of : List Bool → ℕ → Bool
@@ -21,32 +23,36 @@ mark_at marks n = slice_index_or marks n None
 abbrev pub rank_of : List (Option ℕ) → ℕ → ℕ → Option ℕ
 rank_of marks n u = mark_at marks n
 
--- a living node that has the until u, at which it is met or its successors have lower marks than the round
-pub record IsSeen (c : ClosureParts) (g : Graph) (lives : ℕ → Bool) (marks : List (Option ℕ)) (all : Bool) (u f second round n : ℕ) : Type 0 where
+-- a living node that has the until, at which it is met or goes on to lower marks than the round
+pub record IsSeen (c : ClosureParts) (g : Graph) (lives : ℕ → Bool) (marks : List (Option ℕ)) (u : Target) (round n : ℕ) : Type 0 where
   pub living : lives n ≡ true
-  pub member : Has (g.row n) u
-  pub falls : Falls c g lives (rank_of marks) all u f second round n
+  pub member : Has (g.row n) u.member
+  pub falls : Falls c g lives (rank_of marks) u round n
 
 -- marks that were made in rounds before this one
-pub record AreSound (c : ClosureParts) (g : Graph) (lives : ℕ → Bool) (all : Bool) (u f second round : ℕ) (marks : List (Option ℕ)) : Type 0 where
+pub record AreSound (c : ClosureParts) (g : Graph) (lives : ℕ → Bool) (u : Target) (round : ℕ) (marks : List (Option ℕ)) : Type 0 where
   pub long : length marks ≡ g.ands
   pub below : (n r : ℕ) → mark_at marks n ≡ Some r → r < round
-  pub seen : (n r : ℕ) → mark_at marks n ≡ Some r → IsSeen c g lives marks all u f second r n
+  pub seen : (n r : ℕ) → mark_at marks n ≡ Some r → IsSeen c g lives marks u r n
 
 -- how many nodes have no mark
 abbrev pub open_count : List (Option ℕ) → ℕ
 open_count marks = count_by (λ (mark : Option ℕ). is_none mark) marks
 
--- marks to which no round adds any more
-pub record AreMarks (c : ClosureParts) (g : Graph) (lives : ℕ → Bool) (all : Bool) (u f second : ℕ) (marks : List (Option ℕ)) : Type 0 where
-  pub round : ℕ
-  pub sound : AreSound c g lives all u f second round marks
-  pub full : (n : ℕ) → IsSeen c g lives marks all u f second round n → (r : ℕ) × (mark_at marks n ≡ Some r)
+-- the node has a mark of at most r
+abbrev pub IsMarkedBy : List (Option ℕ) → ℕ → ℕ → Type 0
+IsMarkedBy marks r n = (k : ℕ) × (k ≤ r) × (mark_at marks n ≡ Some k)
 
--- the marks of member u, where it is a strong until; and no marks, where it is not
-pub record AreMarksOf (c : ClosureParts) (g : Graph) (lives : ℕ → Bool) (u : ℕ) (marks : List (Option ℕ)) : Type 0 where
-  pub strong : (all : Bool) (f second : ℕ) → part_of c u ≡ Until all false f second → AreMarks c g lives all u f second marks
-  pub other : ((all : Bool) (f second : ℕ) → part_of c u ≡ Until all false f second → ⊥) → marks ≡ []
+-- marks that were made as soon as they could be: where the until is met or goes on to marks below r, the node has one of at most r
+pub record AreMarks (c : ClosureParts) (g : Graph) (lives : ℕ → Bool) (u : Target) (marks : List (Option ℕ)) : Type 0 where
+  pub round : ℕ
+  pub sound : AreSound c g lives u round marks
+  pub full : (n r : ℕ) → IsSeen c g lives marks u r n → IsMarkedBy marks r n
+
+-- the marks of member i, where it is a strong until; and no marks, where it is not
+pub record AreMarksOf (c : ClosureParts) (g : Graph) (lives : ℕ → Bool) (i : ℕ) (marks : List (Option ℕ)) : Type 0 where
+  pub strong : (all : Bool) (f g' : ℕ) → part_of c i ≡ Until all false f g' → AreMarks c g lives (target_with all i f g') marks
+  pub other : ((all : Bool) (f g' : ℕ) → part_of c i ≡ Until all false f g' → ⊥) → marks ≡ []
 
 -- the marks of each member, as lists
 abbrev pub lists_of : List (Vec (Option ℕ)) → List (List (Option ℕ))
@@ -68,7 +74,7 @@ pub record AreTable (c : ClosureParts) (g : Graph) (lives : ℕ → Bool) (k : �
 pub record IsLeft (c : ClosureParts) (g : Graph) (lives : ℕ → Bool) (table : List (List (Option ℕ))) (n : ℕ) : Type 0 where
   pub living : lives n ≡ true
   pub successors : (i h : ℕ) (side : Side) → IsSomeNext c g n i side h → LivesOr g lives (g.next_or n i)
-  pub marked : (u f second : ℕ) (all : Bool) → IsStrong c g n u all f second → (r : ℕ) × (ranks_of table n u ≡ Some r)
+  pub marked : (u : Target) → IsStrong c g n u → (r : ℕ) × (ranks_of table n u.member ≡ Some r)
 
 -- what is left of the first nodes, and that what is gone was gone before or is not supported
 pub record AreLeft (c : ClosureParts) (g : Graph) (lives : ℕ → Bool) (table : List (List (Option ℕ))) (k : ℕ) (left : List Bool) : Type 0 where

@@ -1,13 +1,12 @@
 -- From nodes that are kept to a structure.
-use Rattle.std.specs.Prelude.{ℕ, ◌≡◌, ◌<◌, Bool, true, Option, Contains, All, length}
-use Rattle.pair_structure.specs.Role.{RoleParts, IsRole}
+use Rattle.std.specs.Prelude.{ℕ, Bool, Option, Contains, All}
+use Rattle.pair_structure.specs.Role.{RoleParts}
 use Rattle.pair_structure.specs.Structure.{Structure, IsOver}
-use Rattle.closure_sets.specs.ClosureParts.{ClosureParts, IsClosureParts}
-use Rattle.closure_sets.specs.Cover.{IsTrueAt, HoldsWhole}
-use Rattle.closure_sets.specs.Full.{Has}
+use Rattle.closure_sets.specs.ClosureParts.{ClosureParts}
+use Rattle.closure_sets.specs.Cover.{IsTrueAt}
 use Rattle.tableau_graph.specs.Rules.{IsTableau}
 use Rattle.tableau_graph.specs.TableauParts.{TableauParts}
-use Rattle.tableau_graph.specs.Graph.{Graph, IsGraph, FollowArcs, StartsAtRoot, graph_of}
+use Rattle.tableau_graph.specs.Graph.{graph_of}
 use Rattle.deletion_rules.specs.Deletion.{IsKept, LivesOr}
 use Rattle.deletion_rules.specs.Unravel.{Plan, IsUnravelled}
 use Rattle.deletion_rules.specs.declared.position.Position.{Position}

@@ -13,6 +13,9 @@ pub record IsTarget (c : ClosureParts) (t : Target) : Type 0 where
   pub f : t.f < count c
   pub g : t.g < count c
 
+abbrev pub target_with : Bool → ℕ → ℕ → ℕ → Target
+target_with all u f g = record { all = all; member = u; f = f; g = g }
+
 abbrev pub no_target : Target
 no_target = record { all = false; member = 0; f = 0; g = 0 }
 

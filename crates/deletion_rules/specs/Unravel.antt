@@ -29,7 +29,7 @@ row_at g p = g.row p.node
 
 -- member u is a strong until of the row, of all paths or of some, and not met there
 abbrev pub IsPending : ClosureParts → Members → Bool → ℕ → Type 0
-IsPending c row all u = (f : ℕ) × (second : ℕ) × (part_of c u ≡ Until all false f second) × Has row u × (Has row second → ⊥)
+IsPending c row all u = (f : ℕ) × (g : ℕ) × (part_of c u ≡ Until all false f g) × Has row u × (Has row g → ⊥)
 
 -- the target pends
 abbrev pub Pends : ClosureParts → Graph → Plan → Bool → Position → Type 0
@@ -66,7 +66,7 @@ pub record IsStep (c : ClosureParts) (g : Graph) (plan : Plan) (p : Position) (i
 
 -- what a plan has to be for a closure: all strong untils take turns
 abbrev pub HasTargets : ClosureParts → Plan → Type 0
-HasTargets c plan = (u f second : ℕ) (all : Bool) → u < count c → part_of c u ≡ Until all false f second → (y : ℕ) × (y < length plan.targets) × (target_at plan y ≡ u)
+HasTargets c plan = (u f g : ℕ) (all : Bool) → u < count c → part_of c u ≡ Until all false f g → (y : ℕ) × (y < length plan.targets) × (target_at plan y ≡ u)
 
 -- each state has a position, and its node's label; each EXs h of its row has its move, and each move is one of these
 pub record IsUnravelled (c : ClosureParts) (g : Graph) (m : Structure) (plan : Plan) (at : ℕ → Position) : Type 0 where

@@ -25,7 +25,7 @@ pub(crate) fn mark(
     requires lives { length m.now.lives.now ≡ length m.now.tableau.now.ands }
     requires edges { AreEdges m.now.tableau.now edges.now.parents edges.now.arrows }
     requires target { IsTarget m.now.tableau.now.closure m.now.target }
-    ensures { IfOk result (λ marks. AreMarks m.now.tableau.now.closure (graph_of m.now.tableau.now) (lives_of m.now.lives.now) m.now.target.all m.now.target.member m.now.target.f m.now.target.g marks.items) }
+    ensures { IfOk result (λ marks. AreMarks m.now.tableau.now.closure (graph_of m.now.tableau.now) (lives_of m.now.lives.now) m.now.target marks.items) }
 {
     tableau_is_graph();
     let mut front = first_front(alloc, m)?;
@@ -49,7 +49,7 @@ fn spread(
     requires spread { IsSpread m.now.tableau.now m.now.lives.now m.now.target 1 front.old.marks.items reached.old front.old.nodes.items }
     requires cursors { AreCursors (length m.now.tableau.now.ands) m.now.tableau.now.successors reached.old true front.old.cursors.items }
     requires few { open_count front.old.marks.items + length front.old.nodes.items ≤ length m.now.tableau.now.ands }
-    ensures { OnOk result (AreMarks m.now.tableau.now.closure (graph_of m.now.tableau.now) (lives_of m.now.lives.now) m.now.target.all m.now.target.member m.now.target.f m.now.target.g front.new.marks.items) }
+    ensures { OnOk result (AreMarks m.now.tableau.now.closure (graph_of m.now.tableau.now) (lives_of m.now.lives.now) m.now.target front.new.marks.items) }
 {
     m.tableau.tell_rules();
     let mut round = 0;

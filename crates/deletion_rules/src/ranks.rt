@@ -1,6 +1,8 @@
-ghost use Rattle.std.specs.Prelude.{◌≡◌, ◌<◌, length};
+ghost use Rattle.std.specs.Prelude.{◌≡◌, ◌<◌, ◌↔◌, IsTrue, length};
+ghost use Rattle.deletion_rules.specs.Deletion.{LivesOr};
 ghost use Rattle.deletion_rules.specs.Pruned.{rank_at, lives_at, AreRanksOf};
 ghost use Rattle.deletion_rules.specs.Tests.{lives_or};
+ghost use Rattle.tableau_graph.specs.Graph.{graph_of};
 
 use crate::deleting;
 use std::marker::Model;
@@ -45,12 +47,21 @@ impl Ranks {
     /// Whether the OR node is left: some child of it is.
     pub fn lives_or(&self, or: u64) -> bool
         requires { or < length self.now.tableau.ors }
+        ensures { IsTrue result ↔ LivesOr (graph_of self.now.tableau) (lives_at self.now) or }
+    {
+        self.has_living_child(or)
+    }
+
+    /// The same by the list of the nodes that are left.
+    fn has_living_child(&self, or: u64) -> bool
+        requires { or < length self.now.tableau.ors }
         ensures { result ≡ lives_or self.now.tableau self.now.lives or }
     {
         deleting::lives_or(&self.tableau, &self.lives, or)
     }
 
-    /// The rank of the member at the node: none exactly where the node is deleted, or the member is no strong until of its row.
+    /// The rank of the member at the node, the least with which it is fulfilled there: none exactly where the node is
+    /// deleted, or the member is no strong until of its row.
     pub fn rank(&self, and: u64, member: u32) -> Option<u64>
         ensures { result ≡ rank_at self.now and member }
     {

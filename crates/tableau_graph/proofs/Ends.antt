@@ -7,7 +7,8 @@ use Rattle.pair_structure.specs.Role.{RoleParts, HasArc}
 use Rattle.pair_structure.specs.declared.side.LocalArc.{LocalArc}
 use Rattle.pair_structure.specs.declared.side.Side.{Side}
 use Rattle.pair_structure.specs.declared.side.Side.TheVariants.{A, B}
-use Rattle.tableau_graph.specs.Growing.{IsEnd, AreEnds, arcs_of, with_local}
+use Rattle.pair_structure.specs.Sides.{arcs_of, with_local}
+use Rattle.tableau_graph.specs.Growing.{IsEnd, AreEnds}
 use Rattle.tableau_graph.specs.Rules.{LeadsTo}
 
 -- the ends of some arcs, and of one more
@@ -55,9 +56,9 @@ ends_lead_b a b pair ends are end = (there, back)
     back h = let k = h.0 in (are end).1 (k.1, (k.0, k.2, k.3), (k.4.0, pair_is end.0 end.1 pair.0 k.1.to (sym h.1) (sym k.4.1)))
 
 -- the ends of a side's arcs are where an OR node of that side leads
-pub ends_lead : (a b : RoleParts) (found : Option Side) (side : Side) (pair : ℕ × ℕ) (ends : List (ℕ × ℕ)) → found ≡ Some side → AreEnds side pair (arcs_of a b side) ends → (end : ℕ × ℕ) → Contains ends end ↔ LeadsTo a b found pair end
+pub ends_lead : (a b : RoleParts) (found : Option Side) (side : Side) (pair : ℕ × ℕ) (ends : List (ℕ × ℕ)) → found ≡ Some side → AreEnds side pair (arcs_of side a b) ends → (end : ℕ × ℕ) → Contains ends end ↔ LeadsTo a b found pair end
 ends_lead a b found side pair ends e are = subst (λ (s : Option Side). (end : ℕ × ℕ) → Contains ends end ↔ LeadsTo a b s pair end) (sym e) (by side are)
   where
-    by : (side : Side) → AreEnds side pair (arcs_of a b side) ends → (end : ℕ × ℕ) → Contains ends end ↔ LeadsTo a b (Some side) pair end
+    by : (side : Side) → AreEnds side pair (arcs_of side a b) ends → (end : ℕ × ℕ) → Contains ends end ↔ LeadsTo a b (Some side) pair end
     by A k = ends_lead_a a b pair ends k
     by B k = ends_lead_b a b pair ends k

@@ -2,9 +2,9 @@
 use Rattle.std.specs.Prelude.{ℕ, ◌≡◌, ◌<◌, ◌⊎◌, ◌↔◌, ◌+◌, ◌-◌, ◌^◌, ◌&&◌, Bool, true, false, Option, Some, List, length, map, Contains, slice_get, MatchOption}
 use Rattle.std.specs.Global.{Vec}
 use Rattle.pair_structure.specs.Role.{RoleParts}
+use Rattle.pair_structure.specs.Sides.{local_of, with_local}
 use Rattle.pair_structure.specs.declared.side.LocalArc.{LocalArc}
 use Rattle.pair_structure.specs.declared.side.Side.{Side}
-use Rattle.pair_structure.specs.declared.side.Side.TheVariants.{A, B}
 use Rattle.ctl_form.specs.declared.part.Part.{Part}
 use Rattle.ctl_form.specs.declared.part.Part.TheVariants.{Next}
 use Rattle.closure_sets.specs.ClosureParts.{ClosureParts}
@@ -19,19 +19,6 @@ use Rattle.tableau_graph.specs.TableauParts.{TableauParts, pair_of, row_of, is_s
 use Rattle.tableau_graph.specs.declared.growing.Growing.{Growing}
 use Rattle.tableau_graph.specs.declared.nodes.AndNode.{AndNode}
 use Rattle.tableau_graph.specs.declared.nodes.OrNode.{OrNode}
-
--- the local state of a side, and the pair with another one there
-abbrev pub local_of : Side → ℕ × ℕ → ℕ
-local_of A pair = pair.0
-local_of B pair = pair.1
-
-abbrev pub with_local : Side → ℕ × ℕ → ℕ → ℕ × ℕ
-with_local A pair to = (to, pair.1)
-with_local B pair to = (pair.0, to)
-
-abbrev pub arcs_of : RoleParts → RoleParts → Side → List LocalArc
-arcs_of a b A = a.arcs
-arcs_of a b B = b.arcs
 
 -- an arc leads this side from the pair's local state to that of the other pair
 abbrev pub IsEnd : Side → ℕ × ℕ → LocalArc → ℕ × ℕ → Type 0

@@ -1,12 +1,12 @@
 ghost use Rattle.std.specs.Prelude.{◌≡◌, ◌++◌, ◌↔◌, ℕ, IfOk, OnOk, MatchOption, Contains, map};
 ghost use Rattle.closure_sets.specs.Row.{set_of};
-ghost use Rattle.tableau_graph.specs.Growing.{AreEnds, AreNodesAt, IsEnd, and_with, arcs_of};
+ghost use Rattle.tableau_graph.specs.Growing.{AreEnds, AreNodesAt, IsEnd, and_with};
 ghost use Rattle.tableau_graph.specs.Rules.{LeadsTo};
 
 use crate::pushing::push_some;
 use crate::{AndNode, OrNode};
 use closure_sets::{Closure, Row, full_rows};
-use pair_structure::{LocalArc, Memory, Role, Side};
+use pair_structure::{LocalArc, Memory, Role, Side, arcs_of, local_of, with_local};
 use std::alloc::Global;
 
 /// The pairs that an OR node leads to. Linear in the arcs of its side.
@@ -21,16 +21,7 @@ pub(crate) fn pairs_of(
     let pair = (node.a, node.b);
     match node.side {
         None => Ok(Vec::from_slice(alloc, &[pair])?),
-        Some(side) => Ok(ends_of(alloc, side, pair, arcs_of(a, b, side))?),
-    }
-}
-
-fn arcs_of<'a>(a: &'a Role, b: &'a Role, side: Side) -> &'a [LocalArc]
-    ensures { result.now ≡ arcs_of a.now b.now side }
-{
-    match side {
-        Side::A => a.arcs(),
-        Side::B => b.arcs(),
+        Some(side) => Ok(ends_of(alloc, side, pair, arcs_of(side, a, b))?),
     }
 }
 
@@ -52,17 +43,8 @@ fn ends_of(
 fn end_of(side: Side, pair: (u8, u8), arc: &LocalArc) -> Option<(u8, u8)>
     ensures { MatchOption result ((end : ℕ × ℕ) → IsEnd side pair arc.now end → ⊥) (IsEnd side pair arc.now) }
 {
-    match side {
-        Side::A => {
-            if arc.from == pair.0 {
-                return Some((arc.to, pair.1));
-            }
-        }
-        Side::B => {
-            if arc.from == pair.1 {
-                return Some((pair.0, arc.to));
-            }
-        }
+    if arc.from == local_of(side, pair) {
+        return Some(with_local(side, pair, arc.to));
     }
     None
 }

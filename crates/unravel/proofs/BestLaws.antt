@@ -3,16 +3,8 @@ use Rattle.std.proofs.Common.{ℕ, ◌≡◌, ◌⊎◌, ◌≤◌, ◌&&◌, in
 use Rattle.std.proofs.lemmas.Bool.{and_parts}
 use Rattle.std.proofs.lemmas.List.Elements.{Contains-append_left, Contains-append_right, Contains-append_cases, Contains-push, Contains-push_cases}
 use Rattle.deletion_rules.specs.inside.Picking.{IsBest}
+use Rattle.deletion_rules.proofs.Basics.{Contains-cons, Contains-cons_more, Contains-cons_cases, and_rest}
 use Rattle.unravel.specs.inside.Choice.{best_from, is_lower}
-
-in_front : (n : ℕ) (ns : List ℕ) → Contains (n ∷ ns) n
-in_front n ns = Contains-append_left (n ∷ []) ns n (Contains-push [] n)
-
-behind : (n : ℕ) (ns : List ℕ) (m : ℕ) → Contains ns m → Contains (n ∷ ns) m
-behind n ns m h = Contains-append_right (n ∷ []) ns m h
-
-front_or_behind : (n : ℕ) (ns : List ℕ) (m : ℕ) → Contains (n ∷ ns) m → (n ≡ m) ⊎ Contains ns m
-front_or_behind n ns m h = elim (Contains-append_cases (n ∷ []) ns m h) [ inl a ↦ elim (Contains-push_cases [] n m a) [ inl z ↦ absurd (omega (arith, z.1)) | inr e ↦ inl e ] | inr b ↦ inr b ]
 
 -- a lower rank is there, and below each that the other has
 lower_yes : (x y : Option ℕ) → is_lower x y ≡ true → (k : ℕ) → y ≡ Some k → (j : ℕ) × (x ≡ Some j) × (j ≤ k)
@@ -26,10 +18,6 @@ lower_no None y e j h = absurd (let z : None ≡ Some j = h in cc)
 lower_no (Some i) None e j h = absurd (let z : true ≡ false = e in cc)
 lower_no (Some i) (Some k) e j h = let same : i ≡ j = (let z : Some i ≡ Some j = h in cc) in let ge : nat_lt i k ≡ false = e in (k, refl, grind (arith, ge, same))
 
-both_false : (a b : Bool) → a && b ≡ false → a ≡ true → b ≡ false
-both_false true b e h = e
-both_false false b e h = absurd (let z : false ≡ true = h in cc)
-
 module _ (lives : ℕ → Bool) (rank : ℕ → Option ℕ) where
   abbrev FromSome : ℕ → List ℕ → Type 0
   FromSome b0 ns = (b : ℕ) × (best_from lives rank (Some b0) ns ≡ Some b) × IsBest lives rank (b0 ∷ ns) b
@@ -37,34 +25,34 @@ module _ (lives : ℕ → Bool) (rank : ℕ → Option ℕ) where
   -- one more node takes the place, or does not
   taken : (b0 n : ℕ) (ns : List ℕ) → is_lower (rank n) (rank b0) ≡ true → (b : ℕ) → IsBest lives rank (n ∷ ns) b → lives n ≡ true → IsBest lives rank (b0 ∷ n ∷ ns) b
   taken b0 n ns low b best ln = record {
-    among = behind b0 (n ∷ ns) b best.among;
+    among = Contains-cons_more b0 (n ∷ ns) b best.among;
     living = best.living;
-    lowest = λ m j h lm q. elim (front_or_behind b0 (n ∷ ns) m h) [
-      | inl same ↦ (let u = lower_yes (rank n) (rank b0) low j (subst (λ v. rank v ≡ Some j) (sym same) q) in let v = best.lowest n u.0 (in_front n ns) ln u.1 in let a : v.0 ≤ u.0 = v.2 in let d : u.0 ≤ j = u.2 in (v.0, v.1, omega (arith, a, d)))
+    lowest = λ m j h lm q. elim (Contains-cons_cases b0 (n ∷ ns) m h) [
+      | inl same ↦ (let u = lower_yes (rank n) (rank b0) low j (subst (λ v. rank v ≡ Some j) (sym same) q) in let v = best.lowest n u.0 (Contains-cons n ns) ln u.1 in let a : v.0 ≤ u.0 = v.2 in let d : u.0 ≤ j = u.2 in (v.0, v.1, omega (arith, a, d)))
       | inr old ↦ best.lowest m j old lm q
     ];
   }
 
   passed : (b0 n : ℕ) (ns : List ℕ) → (lives n ≡ true → is_lower (rank n) (rank b0) ≡ false) → (b : ℕ) → IsBest lives rank (b0 ∷ ns) b → lives b0 ≡ true → IsBest lives rank (b0 ∷ n ∷ ns) b
   passed b0 n ns high b best lb = record {
-    among = elim (front_or_behind b0 ns b best.among) [ inl e ↦ subst (λ v. Contains (b0 ∷ n ∷ ns) v) e (in_front b0 (n ∷ ns)) | inr old ↦ behind b0 (n ∷ ns) b (behind n ns b old) ];
+    among = elim (Contains-cons_cases b0 ns b best.among) [ inl e ↦ subst (λ v. Contains (b0 ∷ n ∷ ns) v) e (Contains-cons b0 (n ∷ ns)) | inr old ↦ Contains-cons_more b0 (n ∷ ns) b (Contains-cons_more n ns b old) ];
     living = best.living;
-    lowest = λ m j h lm q. elim (front_or_behind b0 (n ∷ ns) m h) [
-      | inl same ↦ best.lowest m j (subst (λ v. Contains (b0 ∷ ns) v) same (in_front b0 ns)) lm q
-      | inr more ↦ elim (front_or_behind n ns m more) [
-        | inl same ↦ (let ln : lives n ≡ true = subst (λ v. lives v ≡ true) (sym same) lm in let u = lower_no (rank n) (rank b0) (high ln) j (subst (λ v. rank v ≡ Some j) (sym same) q) in let v = best.lowest b0 u.0 (in_front b0 ns) lb u.1 in let a : v.0 ≤ u.0 = v.2 in let d : u.0 ≤ j = u.2 in (v.0, v.1, omega (arith, a, d)))
-        | inr old ↦ best.lowest m j (behind b0 ns m old) lm q
+    lowest = λ m j h lm q. elim (Contains-cons_cases b0 (n ∷ ns) m h) [
+      | inl same ↦ best.lowest m j (subst (λ v. Contains (b0 ∷ ns) v) same (Contains-cons b0 ns)) lm q
+      | inr more ↦ elim (Contains-cons_cases n ns m more) [
+        | inl same ↦ (let ln : lives n ≡ true = subst (λ v. lives v ≡ true) (sym same) lm in let u = lower_no (rank n) (rank b0) (high ln) j (subst (λ v. rank v ≡ Some j) (sym same) q) in let v = best.lowest b0 u.0 (Contains-cons b0 ns) lb u.1 in let a : v.0 ≤ u.0 = v.2 in let d : u.0 ≤ j = u.2 in (v.0, v.1, omega (arith, a, d)))
+        | inr old ↦ best.lowest m j (Contains-cons_more b0 ns m old) lm q
       ]
     ];
   }
 
   from_some : (ns : List ℕ) (b0 : ℕ) → lives b0 ≡ true → FromSome b0 ns
-  from_some [] b0 l = (b0, refl, record { among = in_front b0 []; living = l; lowest = λ m j h lm q. elim (front_or_behind b0 [] m h) [ inl same ↦ (j, subst (λ v. rank v ≡ Some j) (sym same) q, omega arith) | inr z ↦ absurd (omega (arith, z.1)) ] })
+  from_some [] b0 l = (b0, refl, record { among = Contains-cons b0 []; living = l; lowest = λ m j h lm q. elim (Contains-cons_cases b0 [] m h) [ inl same ↦ (j, subst (λ v. rank v ≡ Some j) (sym same) q, omega arith) | inr z ↦ absurd (omega (arith, z.1)) ] })
   from_some (n ∷ ns) b0 l = by (lives n && is_lower (rank n) (rank b0)) refl (from_some ns n) (from_some ns b0 l)
     where
       by : (t : Bool) → (lives n && is_lower (rank n) (rank b0)) ≡ t → (lives n ≡ true → FromSome n ns) → FromSome b0 ns → (b : ℕ) × (best_from lives rank (cond t (Some n) (Some b0)) ns ≡ Some b) × IsBest lives rank (b0 ∷ n ∷ ns) b
       by true e more same = let u = and_parts (lives n) (is_lower (rank n) (rank b0)) e in let v = more u.0 in (v.0, v.1, taken b0 n ns u.1 v.0 v.2 u.0)
-      by false e more same = (same.0, same.1, passed b0 n ns (both_false (lives n) (is_lower (rank n) (rank b0)) e) same.0 same.2 l)
+      by false e more same = (same.0, same.1, passed b0 n ns (and_rest (lives n) (is_lower (rank n) (rank b0)) e) same.0 same.2 l)
 
   abbrev FromNone : List ℕ → Type 0
   FromNone ns = ((b : ℕ) × (best_from lives rank None ns ≡ Some b) × IsBest lives rank ns b) ⊎ ((n : ℕ) → Contains ns n → lives n ≡ true → ⊥)
@@ -75,8 +63,8 @@ module _ (lives : ℕ → Bool) (rank : ℕ → Option ℕ) where
     where
       by : (t : Bool) → lives n ≡ t → (lives n ≡ true → FromSome n ns) → FromNone ns → ((b : ℕ) × (best_from lives rank (cond t (Some n) None) ns ≡ Some b) × IsBest lives rank (n ∷ ns) b) ⊎ ((m : ℕ) → Contains (n ∷ ns) m → lives m ≡ true → ⊥)
       by true e more rest = inl (more e)
-      by false e more (inl u) = inl (u.0, u.1, record { among = behind n ns u.0 u.2.among; living = u.2.living; lowest = λ m j h lm q. elim (front_or_behind n ns m h) [ inl same ↦ absurd (let z : false ≡ true = sym e ∙ subst (λ v. lives v ≡ true) (sym same) lm in cc) | inr old ↦ u.2.lowest m j old lm q ] })
-      by false e more (inr none) = inr (λ m h lm. elim (front_or_behind n ns m h) [ inl same ↦ (let z : false ≡ true = sym e ∙ subst (λ v. lives v ≡ true) (sym same) lm in cc) | inr old ↦ none m old lm ])
+      by false e more (inl u) = inl (u.0, u.1, record { among = Contains-cons_more n ns u.0 u.2.among; living = u.2.living; lowest = λ m j h lm q. elim (Contains-cons_cases n ns m h) [ inl same ↦ absurd (let z : false ≡ true = sym e ∙ subst (λ v. lives v ≡ true) (sym same) lm in cc) | inr old ↦ u.2.lowest m j old lm q ] })
+      by false e more (inr none) = inr (λ m h lm. elim (Contains-cons_cases n ns m h) [ inl same ↦ (let z : false ≡ true = sym e ∙ subst (λ v. lives v ≡ true) (sym same) lm in cc) | inr old ↦ none m old lm ])
 
 -- where some node of the list lives, one is picked, and it is best
 pub best_is : (lives : ℕ → Bool) (rank : ℕ → Option ℕ) (ns : List ℕ) (n : ℕ) → Contains ns n → lives n ≡ true → (b : ℕ) × (best_from lives rank None ns ≡ Some b) × IsBest lives rank ns b

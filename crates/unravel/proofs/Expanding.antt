@@ -13,6 +13,7 @@ use Rattle.tableau_graph.specs.Graph.{IsSomeNext, graph_of}
 use Rattle.tableau_graph.specs.NodeTable.{IsNumber}
 use Rattle.tableau_graph.specs.TableauParts.{edges_at, is_some_next, one_more, somes_below}
 use Rattle.tableau_graph.proofs.Places.{kept_before}
+use Rattle.deletion_rules.proofs.Seen.{next_of_part}
 use Rattle.deletion_rules.specs.Pruned.{RankParts}
 use Rattle.deletion_rules.specs.declared.position.Position.{Position}
 use Rattle.unravel.specs.inside.Growing.{IsGrown, IsSideIn, IsSideOf, IsTurn, nowhere, position_at}
@@ -23,17 +24,6 @@ use Rattle.unravel.proofs.GrowingLaws.{grown_more, grown_next, grown_skip}
 
 counted : (b : Bool) (n : ℕ) → b ≡ true → one_more b n ≡ n + 1
 counted b n e = rw e (omega arith)
-
--- what the test of a part means
-is_next : (part : Part) → is_some_next part ≡ true → (side : Side) × (h : ℕ) × (part ≡ Next false side h)
-is_next (Next false side h) e = (side, h, refl)
-is_next (Next true side h) e = absurd (let z : false ≡ true = e in cc)
-is_next Yes e = absurd (let z : false ≡ true = e in cc)
-is_next No e = absurd (let z : false ≡ true = e in cc)
-is_next (Lit side local is) e = absurd (let z : false ≡ true = e in cc)
-is_next (Both f g) e = absurd (let z : false ≡ true = e in cc)
-is_next (Either f g) e = absurd (let z : false ≡ true = e in cc)
-is_next (Until all weak f g) e = absurd (let z : false ≡ true = e in cc)
 
 module _ (c : ClosureParts) (row : Members) (i : ℕ) where
   one_below : somes_below c row (i + 1) ≡ one_more (row i && is_some_next (part_of c i)) (somes_below c row i)
@@ -46,7 +36,7 @@ module _ (c : ClosureParts) (row : Members) (i : ℕ) where
   none_counted none = by (row i && is_some_next (part_of c i)) refl
     where
       by : (b : Bool) → (row i && is_some_next (part_of c i)) ≡ b → somes_below c row (i + 1) ≡ somes_below c row i
-      by true e = let u = and_parts (row i) (is_some_next (part_of c i)) e in let v = is_next (part_of c i) u.1 in absurd (none v.0 v.1 u.0 v.2)
+      by true e = let u = and_parts (row i) (is_some_next (part_of c i)) e in let v = next_of_part (part_of c i) u.1 in absurd (none v.1 v.0 u.0 v.2)
       by false e = one_below ∙ ap (λ b. one_more b (somes_below c row i)) e
 
 -- a member of the row has the side that its part has

@@ -1,5 +1,5 @@
 -- The plan that the code follows is one of the kept set.
-use Rattle.std.proofs.Common.{ℕ, ◌≡◌, ◌<◌, ◌&&◌, inl, inr, Bool, true, false, cond, Option, Some, None, List, length, map, refl, subst, sym, arith, ◌∙◌, ap, slice_index_or}
+use Rattle.std.proofs.Common.{ℕ, ◌≡◌, ◌<◌, inl, inr, Bool, true, false, cond, Option, Some, None, List, length, map, refl, subst, sym, arith, ◌∙◌, ap, slice_index_or}
 use Rattle.std.proofs.lemmas.Bool.{and_parts, and_from}
 use Rattle.std.proofs.lemmas.List.{get_or-map, length-map}
 use Rattle.std.proofs.lemmas.List.Folds.{Any-from_list_any, list_any-from_Any}
@@ -14,7 +14,7 @@ use Rattle.deletion_rules.specs.Pruned.{RankParts, lives_at, rank_at}
 use Rattle.unravel.specs.inside.Alive.{IsAlive}
 use Rattle.deletion_rules.specs.Unravel.{HasTargets, IsPending}
 use Rattle.unravel.specs.inside.Choice.{falls_by, has_lower, is_below, is_lower_at, keep_of, member_of, plan_of}
-use Rattle.deletion_rules.specs.Targets.{AreTargets, no_target, target_in}
+use Rattle.deletion_rules.specs.Targets.{AreTargets, no_target, target_in, target_with}
 use Rattle.deletion_rules.specs.declared.target.Target.{Target}
 
 below_out : (r : ℕ) (o : Option ℕ) → is_below r o ≡ true → (j : ℕ) × (o ≡ Some j) × (j < r)
@@ -54,9 +54,9 @@ module _ (r : RankParts) (alive : IsAlive r) (targets : List Target) where
   kept_by n u B e false f = by_falls n u B e
 
   keeper : (n u : ℕ) → lives_at r n ≡ true → IsPending r.tableau.closure ((graph_of r.tableau).row n) false u → IsKeeper n u (keep_of r n u)
-  keeper n u l x = by (alive.kept.ranks.some n u x.0 x.1 false l (record { part = x.2; member = x.3 }))
+  keeper n u l x = by (alive.kept.ranks.some n (target_with false u x.0 x.1) l (record { part = x.2; member = x.3 }))
     where
-      by : (k : ℕ) × (rank_at r n u ≡ Some k) × Falls r.tableau.closure (graph_of r.tableau) (lives_at r) (rank_at r) false u x.0 x.1 k n → IsKeeper n u (keep_of r n u)
+      by : (k : ℕ) × (rank_at r n u ≡ Some k) × Falls r.tableau.closure (graph_of r.tableau) (lives_at r) (rank_at r) (target_with false u x.0 x.1) k n → IsKeeper n u (keep_of r n u)
       by v = elim v.2 [ inl met ↦ absurd (x.4 met) | inr w ↦ kept_by n u w.1.0 (falls_in n u w.1.0 w.1.1 (subst (λ k. HasLower (graph_of r.tableau) (lives_at r) (rank_at r) u k ((graph_of r.tableau).next_or n (after r.tableau.closure w.1.0 u))) (sym (ap or_zero v.1)) w.1.2)) (falls_by r n u A) refl ]
 
   pub is_plan : IsPlan r.tableau.closure (graph_of r.tableau) (lives_at r) (rank_at r) (plan_of r targets)

@@ -1,5 +1,5 @@
 -- The edges of a tableau the other way round: from children to their OR nodes, and from OR nodes to the members that lead to them.
-use Rattle.std.specs.Prelude.{ℕ, ◌≡◌, ◌<◌, ◌⊎◌, ◌&&◌, Bool, true, List, Contains, length}
+use Rattle.std.specs.Prelude.{ℕ, ◌≡◌, ◌<◌, ◌&&◌, Bool, List, Contains, length}
 use Rattle.pair_structure.specs.declared.side.Side.{Side}
 use Rattle.closure_sets.specs.Label.{part_of}
 use Rattle.tableau_graph.specs.Graph.{graph_of, IsSomeNext}

@@ -9,7 +9,7 @@ use Rattle.deletion_rules.specs.inside.Cursors.{flag_of}
 use Rattle.deletion_rules.specs.Deletion.{HasLower}
 use Rattle.deletion_rules.specs.inside.Edges.{IsArrow}
 use Rattle.deletion_rules.specs.inside.Lists.{list_at}
-use Rattle.deletion_rules.specs.Marks.{lives_of, mark_at, open_count, rank_of, AreSound}
+use Rattle.deletion_rules.specs.Marks.{lives_of, mark_at, open_count, rank_of, AreSound, IsMarkedBy, IsSeen}
 use Rattle.deletion_rules.specs.declared.edges.Arrow.{Arrow}
 use Rattle.deletion_rules.specs.declared.target.Target.{Target}
 
@@ -35,11 +35,11 @@ abbrev pub IsLed : TableauParts → List Bool → Bool → ℕ → ℕ → Type 
 IsLed t reached true u n = (i h : ℕ) (side : Side) → IsSomeNext t.closure (graph_of t) n i side h → flag_of reached ((graph_of t).next_or n i) ≡ true
 IsLed t reached false u n = (side : Side) × Has ((graph_of t).row n) (after t.closure side u) × (flag_of reached ((graph_of t).next_or n (after t.closure side u)) ≡ true)
 
--- a living node that has the until and its first part, and is led on
+-- a living node that has the until and its part f, and is led on
 pub record IsPassing (t : TableauParts) (lives reached : List Bool) (target : Target) (n : ℕ) : Type 0 where
   pub living : lives_of lives n ≡ true
   pub member : Has ((graph_of t).row n) target.member
-  pub first : Has ((graph_of t).row n) target.f
+  pub f : Has ((graph_of t).row n) target.f
   pub led : IsLed t reached target.all target.member n
 
 -- the arrow leads to an OR node that is reached
@@ -55,7 +55,7 @@ IsLedBy t reached false u arrow = IsNextTime t.closure u arrow.member
 pub record IsAdmitted (t : TableauParts) (lives reached : List Bool) (target : Target) (arrow : Arrow) : Type 0 where
   pub living : lives_of lives arrow.node ≡ true
   pub member : Has ((graph_of t).row arrow.node) target.member
-  pub first : Has ((graph_of t).row arrow.node) target.f
+  pub f : Has ((graph_of t).row arrow.node) target.f
   pub led : IsLedBy t reached target.all target.member arrow
 
 abbrev pub IsMarked : List (Option ℕ) → ℕ → Type 0
@@ -75,11 +75,11 @@ pub record Visits (t : TableauParts) (lives reached : List Bool) (target : Targe
   pub all : (arrow : Arrow) → Named arrow → IsAdmitted t lives reached target arrow → IsMarked after arrow.node
   pub fewer : open_count after + length new ≡ open_count before + length old
 
--- a living node that has the until and its second part
+-- a living node that has the until and its part g
 pub record IsMetAt (t : TableauParts) (lives : List Bool) (target : Target) (n : ℕ) : Type 0 where
   pub living : lives_of lives n ≡ true
   pub member : Has ((graph_of t).row n) target.member
-  pub second : Has ((graph_of t).row n) target.g
+  pub g : Has ((graph_of t).row n) target.g
 
 -- of the first k nodes, those at which the until is met are marked with 0, and listed
 pub record AreFirst (t : TableauParts) (lives : List Bool) (target : Target) (k : ℕ) (marks : List (Option ℕ)) (nodes : List ℕ) : Type 0 where
@@ -91,10 +91,11 @@ pub record AreFirst (t : TableauParts) (lives : List Bool) (target : Target) (k 
 
 -- marks of the rounds before this one: the OR nodes with a marked child are reached, but for those of the nodes that were marked last, and each node that passes by what is reached has a mark
 pub record IsSpread (t : TableauParts) (lives : List Bool) (target : Target) (round : ℕ) (marks : List (Option ℕ)) (reached : List Bool) (nodes : List ℕ) : Type 0 where
-  pub sound : AreSound t.closure (graph_of t) (lives_of lives) target.all target.member target.f target.g round marks
+  pub sound : AreSound t.closure (graph_of t) (lives_of lives) target round marks
   pub listed : (n : ℕ) → Contains nodes n → IsMarked marks n
   pub long : length reached ≡ length t.ors
   pub lower : (o : ℕ) → flag_of reached o ≡ true → HasLower (graph_of t) (lives_of lives) (rank_of marks) target.member round o
   pub caught : (o n : ℕ) → o < length t.ors → Contains ((graph_of t).children o) n → IsMarked marks n → (flag_of reached o ≡ true) ⊎ Contains nodes n
   pub met : (n : ℕ) → IsMetAt t lives target n → IsMarked marks n
   pub passing : (n : ℕ) → IsPassing t lives reached target n → IsMarked marks n
+  pub prompt : (n r : ℕ) → r < round → IsSeen t.closure (graph_of t) (lives_of lives) marks target r n → IsMarkedBy marks r n

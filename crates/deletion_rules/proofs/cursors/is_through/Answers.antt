@@ -1,4 +1,4 @@
-use Rattle.std.proofs.Common.{◌≡◌, ◌<◌, length, arith, slice_index_or}
+use Rattle.std.proofs.Common.{slice_index_or}
 use Rattle.std.proofs.lemmas.Grind.{get_or_default_zero}
 use Rattle.deletion_rules.proofs.Standing.{through_before, through_end}
 use Rattle.deletion_rules.proofs.cursors.is_through.Goals as goal

@@ -1,4 +1,4 @@
-use Rattle.std.proofs.Common.{◌<◌, length, slice_index_or, arith}
+use Rattle.std.proofs.Common.{arith}
 use Rattle.deletion_rules.proofs.Within.{successor_below}
 use Rattle.deletion_rules.proofs.deleting.lives_on.Goals as goal
 

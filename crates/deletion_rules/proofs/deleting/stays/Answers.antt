@@ -1,4 +1,4 @@
-use Rattle.std.proofs.Common.{◌≡◌, inr, sym, ◌∙◌, arith}
+use Rattle.std.proofs.Common.{inr, sym, ◌∙◌, arith}
 use Rattle.deletion_rules.specs.Marks.{lists_of}
 use Rattle.deletion_rules.proofs.Left.{left_apart, left_missing, left_yes}
 use Rattle.deletion_rules.proofs.Standing.{flag_within}

@@ -1,4 +1,4 @@
-use Rattle.std.proofs.Common.{◌≡◌, ◌<◌, ◌≤◌, ◌+◌, true, false, length, refl, subst, sym, ap, ◌∙◌, arith}
+use Rattle.std.proofs.Common.{◌≡◌, ◌≤◌, ◌+◌, true, false, refl, subst, sym, ap, ◌∙◌, arith}
 use Rattle.closure_sets.specs.ClosureParts.{count}
 use Rattle.deletion_rules.specs.inside.Edges.{is_next}
 use Rattle.deletion_rules.proofs.EdgeLaws.{AddsArrows, arrow_at, arrow_begin, arrow_below, arrow_end, arrow_passed, arrow_step, place_next, place_same}

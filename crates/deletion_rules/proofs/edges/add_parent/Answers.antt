@@ -1,4 +1,3 @@
-use Rattle.std.proofs.Common.{refl}
 use Rattle.deletion_rules.proofs.EdgeLaws.{child_begin, child_end, child_step}
 use Rattle.deletion_rules.proofs.Within.{child_below}
 use Rattle.deletion_rules.proofs.edges.add_parent.Goals as goal

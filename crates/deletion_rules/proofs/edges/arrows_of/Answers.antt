@@ -1,4 +1,4 @@
-use Rattle.std.proofs.Common.{◌≡◌, ◌<◌, ℕ, length, subst, sym, ap, arith}
+use Rattle.std.proofs.Common.{◌≡◌, ◌<◌, ℕ, length, subst, ap, arith}
 use Rattle.deletion_rules.specs.inside.Edges.{AreArrows}
 use Rattle.deletion_rules.specs.inside.Lists.{AreEmpty}
 use Rattle.deletion_rules.specs.declared.edges.Arrow.{Arrow}

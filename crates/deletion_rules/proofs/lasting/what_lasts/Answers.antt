@@ -1,4 +1,4 @@
-use Rattle.std.proofs.Common.{◌≡◌, ◌<◌, ℕ, true, length, replicate, ap, subst, ◌∙◌, arith}
+use Rattle.std.proofs.Common.{◌<◌, ℕ, true, length, replicate, ap, ◌∙◌, arith}
 use Rattle.std.proofs.lemmas.List.{length-replicate}
 use Rattle.tableau_graph.specs.Graph.{graph_of}
 use Rattle.deletion_rules.specs.Marks.{living_count}
@@ -12,7 +12,7 @@ loop-lives-init c =
     record { long = c.in_ok-lives.ensures.long ∙ ap length same ∙ length-replicate (length t.ands) true; met = c.in_ok-lives.ensures.met (met_first t.a t.b t.closure (graph_of t) c.in_ok-flags.field-0.items same) }
 
 pub returns-then-living_count : goal.returns-then-living_count
-returns-then-living_count c = round_last c.args.t.now c.ands-nodes.ensures.tableau c.loop-lives.lives.items c.in_ok-left.left.items c.deref.result.now c.deref-in-loop-lives-2.result.now c.in_ok-table.table.items c.deref-in-loop-lives-3.result.now c.loop-lives.invariant.long c.loop-lives.invariant.met c.deref.ensures.value c.deref-in-loop-lives-2.ensures.value c.deref-in-loop-lives-3.ensures.value c.in_ok-table.ensures c.in_ok-left.ensures c.living_count.result c.living_count-in-loop-lives.result c.deref-in-loop-lives-4.result.now c.deref-in-loop-lives-5.result.now c.living_count.ensures c.deref-in-loop-lives-4.ensures.value c.living_count-in-loop-lives.ensures c.deref-in-loop-lives-5.ensures.value c.if-living_count.true
+returns-then-living_count c = round_last c.args.t.now c.ands-nodes.ensures.tableau c.loop-lives.lives.items c.in_ok-left.left.items c.deref.result.now c.deref-in-loop-lives-2.result.now c.in_ok-table.table.items c.deref-in-loop-lives-3.result.now c.loop-lives.invariant.long c.loop-lives.invariant.met c.deref.ensures.value c.deref-in-loop-lives-2.ensures.value c.deref-in-loop-lives-3.ensures.value c.in_ok-table.ensures c.in_ok-left.ensures c.living_count.result c.living_count-in-loop-lives.result c.deref-in-loop-lives-4.result.now c.deref-in-loop-lives-5.result.now c.living_count.ensures c.deref-in-loop-lives-4.ensures.value c.living_count-in-loop-lives.ensures c.deref-in-loop-lives-5.ensures.value c.if-living_count.true (c.tableau_is_graph.ensures c.args.t.now c.ands-nodes.ensures.tableau)
 
 pub loop-lives-smaller : goal.loop-lives-smaller
 loop-lives-smaller c =

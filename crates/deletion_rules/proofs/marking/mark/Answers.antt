@@ -1,4 +1,4 @@
-use Rattle.std.proofs.Common.{◌≡◌, ℕ, List, false, length, replicate, ap, subst, ◌∙◌}
+use Rattle.std.proofs.Common.{◌≡◌, false, length, replicate, ap, ◌∙◌}
 use Rattle.std.proofs.lemmas.List.{length-replicate}
 use Rattle.deletion_rules.proofs.SpreadLaws.{none_reached, spread_first}
 use Rattle.deletion_rules.proofs.marking.mark.Goals as goal

@@ -1,4 +1,4 @@
-use Rattle.std.proofs.Common.{◌≡◌, ◌<◌, ◌≤◌, ◌+◌, ℕ, List, [], Contains, length, subst, sym, ap, ◌∙◌, arith, vec_len}
+use Rattle.std.proofs.Common.{◌≡◌, ◌≤◌, ◌+◌, ℕ, List, [], length, subst, arith}
 use Rattle.deletion_rules.specs.Marks.{open_count}
 use Rattle.deletion_rules.specs.inside.Spread.{IsArrowTo, IsParentOf, Reaching, Visits}
 use Rattle.deletion_rules.proofs.SpreadLaws.{arrow_reaches, cursors_stay, node_below, or_below, parent_below, spread_done, spread_next}

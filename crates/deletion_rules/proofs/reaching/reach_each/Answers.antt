@@ -1,4 +1,4 @@
-use Rattle.std.proofs.Common.{◌≡◌, ◌<◌, Contains, length, arith, slice_index_or}
+use Rattle.std.proofs.Common.{arith, slice_index_or}
 use Rattle.std.proofs.lemmas.Grind.{get_or_default_zero}
 use Rattle.deletion_rules.proofs.ReachingLaws.{reaching_begin, reaching_end, reaching_step}
 use Rattle.deletion_rules.proofs.reaching.reach_each.Goals as goal

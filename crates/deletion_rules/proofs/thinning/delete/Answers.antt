@@ -1,4 +1,4 @@
-use Rattle.std.proofs.Common.{◌≡◌, ◌<◌, length, refl, ◌∙◌, arith, length-set, false, slice_set}
+use Rattle.std.proofs.Common.{◌<◌, length, refl, ◌∙◌, arith, length-set, false, slice_set}
 use Rattle.deletion_rules.proofs.ThinningLaws.{cursors_still, nodes_push, thinned_without}
 use Rattle.deletion_rules.proofs.thinning.delete.Goals as goal
 

@@ -1,6 +1,4 @@
-use Rattle.std.proofs.Common.{◌≡◌, ◌<◌, ◌+◌, ℕ, List, [], not, Contains, count_by, length, subst, ap, ◌∙◌, arith}
-use Rattle.deletion_rules.specs.inside.Edges.{AreEdges}
-use Rattle.deletion_rules.specs.inside.Thinning.{Deletes}
+use Rattle.std.proofs.Common.{ℕ, List, [], Contains, subst, arith}
 use Rattle.deletion_rules.proofs.ThinningLaws.{lost_after, thinned_kept, thinned_none, thinned_then}
 use Rattle.deletion_rules.proofs.thinning.thin.Goals as goal
 

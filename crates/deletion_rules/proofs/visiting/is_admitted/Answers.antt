@@ -1,5 +1,4 @@
-use Rattle.std.proofs.Common.{◌≡◌, ◌<◌, true, List, ℕ, Contains, length, subst, sym, ◌∙◌, arith}
-use Rattle.tableau_graph.specs.TableauParts.{edges_at}
+use Rattle.std.proofs.Common.{true, List, ℕ, Contains, length, subst, sym, ◌∙◌, arith}
 use Rattle.deletion_rules.specs.inside.Cursors.{HasPassed}
 use Rattle.deletion_rules.proofs.Standing.{cursors_set}
 use Rattle.deletion_rules.proofs.VisitLaws.{each_admits}

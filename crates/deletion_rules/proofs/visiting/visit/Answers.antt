@@ -1,4 +1,4 @@
-use Rattle.std.proofs.Common.{◌≡◌, ◌<◌, false, length, subst, sym, ◌∙◌, arith, is_some}
+use Rattle.std.proofs.Common.{◌<◌, length, sym, ◌∙◌, arith}
 use Rattle.deletion_rules.proofs.VisitLaws.{admitted_passes, read_none, read_some, visits_new, visits_passed}
 use Rattle.deletion_rules.proofs.visiting.visit.Goals as goal
 

@@ -1,4 +1,4 @@
-use Rattle.std.proofs.Common.{◌≡◌, ◌<◌, List, length, ◌∙◌, slice_index_or}
+use Rattle.std.proofs.Common.{◌∙◌, slice_index_or}
 use Rattle.std.proofs.lemmas.List.{get_or_default}
 use Rattle.deletion_rules.specs.inside.Edges.{arrow_of}
 use Rattle.deletion_rules.specs.declared.edges.Arrow.{Arrow}

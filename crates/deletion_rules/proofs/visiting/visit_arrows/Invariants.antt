@@ -1,4 +1,4 @@
-use Rattle.std.proofs.Common.{◌≡◌, true, length}
+use Rattle.std.proofs.Common.{true, length}
 use Rattle.deletion_rules.specs.inside.Cursors.{AreCursors}
 use Rattle.deletion_rules.specs.inside.Lists.{StandsBefore}
 use Rattle.deletion_rules.specs.inside.Spread.{Visits}

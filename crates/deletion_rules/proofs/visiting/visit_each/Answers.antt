@@ -1,4 +1,4 @@
-use Rattle.std.proofs.Common.{◌≡◌, ◌<◌, ℕ, List, Contains, length, subst, ◌∙◌, slice_index_or}
+use Rattle.std.proofs.Common.{List, Contains, subst, ◌∙◌, slice_index_or}
 use Rattle.std.proofs.lemmas.Grind.{get_or_default_zero}
 use Rattle.deletion_rules.specs.declared.edges.Arrow.{Arrow}
 use Rattle.deletion_rules.proofs.VisitLaws.{ors_begin, ors_end, ors_step}
