@@ -1,7 +1,6 @@
 -- A living node of a list with the lowest rank of an until.
 use Rattle.std.proofs.Common.{ℕ, ◌≡◌, ◌⊎◌, ◌≤◌, inl, inr, Bool, true, Option, Some, None, List, [], ◌∷◌, Contains, refl, subst, sym, arith}
 use Rattle.std.proofs.Math.Decide.{dec_le}
-use Rattle.std.proofs.lemmas.List.Elements.{Contains-append_left, Contains-append_right, Contains-append_cases, Contains-push, Contains-push_cases}
 use Rattle.ctl_form.proofs.Decided.{Decided}
 use Rattle.deletion_rules.specs.inside.Picking.{IsBest}
 use Rattle.deletion_rules.proofs.Pending.{decided_has}

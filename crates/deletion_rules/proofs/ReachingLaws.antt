@@ -1,11 +1,9 @@
 -- Reaching, an OR node at a time.
-use Rattle.std.proofs.Common.{ℕ, ◌≡◌, ◌⊎◌, ◌<◌, ◌≤◌, ◌+◌, ◌++◌, inl, inr, Bool, true, List, [], ◌∷◌, Contains, length, length-set, refl, subst, sym, ◌∙◌, arith, slice_index_or, slice_set}
-use Rattle.std.proofs.lemmas.List.Elements.{Contains-append_left, Contains-append_right, Contains-push_cases}
+use Rattle.std.proofs.Common.{ℕ, ◌≡◌, ◌⊎◌, ◌<◌, ◌≤◌, ◌+◌, inl, inr, Bool, List, Contains, length, refl, subst, sym, ◌∙◌, slice_index_or}
 use Rattle.std.proofs.lemmas.Grind.{get_or_default_zero}
-use Rattle.deletion_rules.specs.inside.Cursors.{flag_of}
 use Rattle.deletion_rules.specs.inside.Lists.{list_at, StandsBefore}
 use Rattle.deletion_rules.specs.inside.Spread.{IsParentOf, Reaching}
-use Rattle.deletion_rules.proofs.Standing.{flag_here, flag_kept, flag_cases, none_before, stands_all, stands_cases, stands_here, stands_in, stands_more}
+use Rattle.deletion_rules.proofs.Standing.{none_before, stands_all, stands_cases, stands_here, stands_in, stands_more}
 
 pub reaching_none : (before : List Bool) (old : List ℕ) (Named : ℕ → Type 0) → ((o : ℕ) → Named o → ⊥) → Reaching Named before old before old
 reaching_none before old Named none = record { long = refl; kept = λ o h. h; all = λ o h. absurd (none o h); only = λ o h. inl h; listed = λ o h. h; fresh = λ o h. inl h }
@@ -22,22 +20,6 @@ reaching_then P Q R b a a' ol n n' from_p from_q cases h k = record {
   listed = λ o c. k.listed o (h.listed o c);
   fresh = λ o c. elim (k.fresh o c) [ inl f ↦ elim (h.fresh o f) [ inl g ↦ inl g | inr e ↦ inr (k.kept o e) ] | inr e ↦ inr e ];
 }
-
-pub reaching_new : (flags : List Bool) (list : List ℕ) (i : ℕ) (new : List ℕ) → i < length flags → new ≡ list ++ i ∷ [] → Reaching (λ o. o ≡ i) flags list (slice_set flags i true) new
-reaching_new flags list i new lt e = subst (Reaching (λ o. o ≡ i) flags list (slice_set flags i true)) (sym e) (record {
-  long = length-set flags i true;
-  kept = λ o h. flag_kept flags i o lt h;
-  all = λ o q. subst (λ z. flag_of (slice_set flags i true) z ≡ true) (sym q) (flag_here flags i true lt);
-  only = λ o h. elim (flag_cases flags i o h) [ inl f ↦ inl f | inr q ↦ inr (q, subst (Contains (list ++ i ∷ [])) (sym q) last) ];
-  listed = λ o c. Contains-append_left list (i ∷ []) o c;
-  fresh = λ o c. elim (Contains-push_cases list i o c) [ inl f ↦ inl f | inr q ↦ inr (subst (λ z. flag_of (slice_set flags i true) z ≡ true) q (flag_here flags i true lt)) ];
-})
-  where
-    last : Contains (list ++ i ∷ []) i
-    last = Contains-append_right list (i ∷ []) i (0, omega arith, refl)
-
-pub reaching_old : (flags : List Bool) (list : List ℕ) (i : ℕ) → flag_of flags i ≡ true → Reaching (λ o. o ≡ i) flags list flags list
-reaching_old flags list i h = record { long = refl; kept = λ o e. e; all = λ o q. subst (λ z. flag_of flags z ≡ true) (sym q) h; only = λ o e. inl e; listed = λ o c. c; fresh = λ o c. inl c }
 
 -- all items of a list, one after the other
 pub reaching_begin : (items : List ℕ) (flags : List Bool) (list : List ℕ) → Reaching (StandsBefore items 0) flags list flags list

@@ -8,23 +8,14 @@ use Rattle.closure_sets.specs.ClosureParts.{ClosureParts, IsClosureParts, count}
 use Rattle.closure_sets.specs.Label.{part_of}
 use Rattle.closure_sets.proofs.MarkLaws.{below_of}
 use Rattle.tableau_graph.specs.Graph.{Graph}
-use Rattle.deletion_rules.specs.Marks.{lists_of, marks_at, AreMarks, AreMarksOf, AreTable}
-use Rattle.deletion_rules.specs.Targets.{IsTarget, target_with}
+use Rattle.deletion_rules.specs.Marks.{lists_of, marks_at, AreMarksOf, AreTable}
+use Rattle.deletion_rules.specs.Targets.{IsTarget}
 
 pub target_is : (c : ClosureParts) → IsClosureParts c → (all : Bool) (u f g : ℕ) → u < count c → part_of c u ≡ Until all false f g → IsTarget c (record { all = all; member = u; f = f; g = g })
 target_is c k all u f g lt p = let below = below_of c k u (Until all false f g) lt p in record { part = p; member = lt; f = below.0; g = below.1 }
 
 until_same : {all all' : Bool} {f f' g g' : ℕ} → Until all false f g ≡ Until all' false f' g' → (all ≡ all') × (f ≡ f') × (g ≡ g')
 until_same e = (cc, cc, cc)
-
-pub marks_of_strong : (c : ClosureParts) (g : Graph) (lives : ℕ → Bool) (u : ℕ) (all : Bool) (f second : ℕ) (marks : List (Option ℕ)) → part_of c u ≡ Until all false f second → AreMarks c g lives (target_with all u f second) marks → AreMarksOf c g lives u marks
-marks_of_strong c g lives u all f second marks p h = record { strong = λ all' f' second' q. by all' f' second' (until_same (sym p ∙ q)); other = λ none. absurd (none all f second p) }
-  where
-    by : (all' : Bool) (f' second' : ℕ) → (all ≡ all') × (f ≡ f') × (second ≡ second') → AreMarks c g lives (target_with all' u f' second') marks
-    by all' f' second' e = subst (λ b. AreMarks c g lives (target_with b u f' second') marks) e.0 (subst (λ x. AreMarks c g lives (target_with all u x second') marks) e.1 (subst (λ x. AreMarks c g lives (target_with all u f x) marks) e.2 h))
-
-pub marks_of_other : (c : ClosureParts) (g : Graph) (lives : ℕ → Bool) (u : ℕ) (marks : List (Option ℕ)) → ((all : Bool) (f second : ℕ) → part_of c u ≡ Until all false f second → ⊥) → marks ≡ [] → AreMarksOf c g lives u marks
-marks_of_other c g lives u marks none e = record { strong = λ all f second p. absurd (none all f second p); other = λ _. e }
 
 pub table_push : (c : ClosureParts) (g : Graph) (lives : ℕ → Bool) (k : ℕ) (table more : List (Vec (Option ℕ))) (x : Vec (Option ℕ)) → AreTable c g lives k (lists_of table) → more ≡ table ++ x ∷ [] → AreMarksOf c g lives k x.items → AreTable c g lives (k + 1) (lists_of more)
 table_push c g lives k table more x h e new = record { long = ap length same ∙ long; each = each }

@@ -1,17 +1,16 @@
 -- Deletion of nodes of which a successor has no living child: each step is lawful.
-use Rattle.std.proofs.Common.{ℕ, ◌≡◌, ◌⊎◌, ◌<◌, ◌+◌, ◌++◌, inl, inr, Bool, true, false, not, cond, List, [], ◌∷◌, Contains, length, length-append, length-set, refl, subst, sym, ◌∙◌, ap, arith, count_by, replicate, slice_index, slice_set}
+use Rattle.std.proofs.Common.{ℕ, ◌≡◌, ◌⊎◌, ◌<◌, ◌+◌, ◌++◌, inl, inr, Bool, true, false, not, cond, List, [], ◌∷◌, Contains, length, length-append, length-set, refl, subst, sym, ◌∙◌, ap, arith, count_by, slice_index, slice_set}
 use Rattle.std.proofs.Math.Decide.{ℕ_discrete}
-use Rattle.std.proofs.lemmas.List.{get_or-replicate, length-replicate}
 use Rattle.std.proofs.lemmas.List.Elements.{Contains-push_cases}
 use Rattle.std.proofs.lemmas.List.Sums.{sum_by-set}
 use Rattle.tableau_graph.specs.Graph.{graph_of, IsGraph, ChildrenCover}
 use Rattle.tableau_graph.specs.Rules.{IsTableau}
 use Rattle.tableau_graph.specs.TableauParts.{TableauParts, edges_at}
-use Rattle.deletion_rules.specs.inside.Cursors.{flag_of, AreCursors, EachIs, HasPassed}
+use Rattle.deletion_rules.specs.inside.Cursors.{flag_of, AreCursors, EachIs}
 use Rattle.deletion_rules.specs.Deletion.{IsSupported, LivesOr}
 use Rattle.deletion_rules.specs.Marks.{lives_of}
 use Rattle.deletion_rules.specs.Met.{MetLive}
-use Rattle.deletion_rules.specs.inside.Thinning.{AreLost, AreNodes, Deletes, IsLosing, IsLost, IsThinned, IsThinning, Loses}
+use Rattle.deletion_rules.specs.inside.Thinning.{AreLost, AreNodes, Deletes, IsLosing, IsLost, IsThinned, Loses}
 use Rattle.deletion_rules.specs.declared.edges.Arrow.{Arrow}
 use Rattle.deletion_rules.specs.declared.thinning.Thinning.{Thinning}
 use Rattle.deletion_rules.proofs.Removal.{removal_keeps_met}
@@ -58,16 +57,7 @@ false_still lives left x within e = by (flag_of left x) refl
 pub cursors_still : (count : ℕ) (lists : List (List ℕ)) (lives left : List Bool) (cursors : List ℕ) → ((n : ℕ) → lives_of left n ≡ true → lives_of lives n ≡ true) → AreCursors count lists lives false cursors → AreCursors count lists left false cursors
 cursors_still count lists lives left cursors within h = record { long = h.long; each = λ n lt. (let p = h.each n lt in record { within = p.within; passed = λ i small. false_still lives left (slice_index (edges_at lists n) i) within (p.passed i small) }) }
 
-pub cursors_first : (count : ℕ) (lists : List (List ℕ)) (flags : List Bool) (value : Bool) (cursors : List ℕ) → cursors ≡ replicate count 0 → AreCursors count lists flags value cursors
-cursors_first count lists flags value cursors e = record { long = ap length e ∙ length-replicate count 0; each = each }
-  where
-    each : (n : ℕ) → n < count → HasPassed (edges_at lists n) flags value (slice_index cursors n)
-    each n lt = let zero_at : slice_index cursors n ≡ 0 = ap (λ (l : List ℕ). slice_index l n) e ∙ get_or-replicate count n 0 0 lt in subst (HasPassed (edges_at lists n) flags value) (sym zero_at) (record { within = omega arith; passed = λ i small. absurd (omega (arith, small)) })
-
 -- losing, an OR node at a time
-pub loses_none : (t : TableauParts) (th : Thinning) (ors : List ℕ) → IsThinning t th → Loses t th ors th ors
-loses_none t th ors h = record { thinning = h; kept = refl; lost = λ l. l; fewer = refl }
-
 pub loses_then : (t : TableauParts) (a b d : Thinning) (old mid new : List ℕ) → Loses t a old b mid → Loses t b mid d new → Loses t a old d new
 loses_then t a b d old mid new h k = record { thinning = k.thinning; kept = k.kept ∙ h.kept; lost = λ l. subst (λ (x : List Bool). AreLost t x new) h.kept (k.lost (subst (λ (x : List Bool). AreLost t x mid) (sym h.kept) (h.lost l))); fewer = k.fewer ∙ h.fewer }
 
@@ -84,9 +74,6 @@ pub lost_push : (t : TableauParts) (lives : List Bool) (o : ℕ) (ors new : List
 lost_push t lives o ors new lt lost f all p c = elim (Contains-push_cases ors o p (subst (λ (l : List ℕ). Contains l p) f c)) [ inl b ↦ all p b | inr q ↦ subst (λ x. (x < length t.ors) × IsLost t lives x) q (lt, lost) ]
 
 -- deleting, a node at a time
-pub deletes_none : (t : TableauParts) (th : Thinning) (nodes : List ℕ) → IsThinning t th → Deletes t th nodes th nodes
-deletes_none t th nodes h = record { thinning = h; thinned = thinned_none t th.lives.items; kept = refl; nodes = λ n. n }
-
 pub deletes_then : (t : TableauParts) (a b d : Thinning) (old mid new : List ℕ) → Deletes t a old b mid → Deletes t b mid d new → Deletes t a old d new
 deletes_then t a b d old mid new h k = record { thinning = k.thinning; thinned = thinned_then t a.lives.items b.lives.items d.lives.items h.thinned k.thinned; kept = k.kept ∙ h.kept; nodes = λ n. k.nodes (h.nodes n) }
 

@@ -1,5 +1,5 @@
 -- The nodes that a tableau's edges lead to.
-use Rattle.std.proofs.Common.{ℕ, ◌≡◌, ◌<◌, Bool, true, false, List, Contains, length, subst, sym, ap, ◌∙◌, arith, slice_index_or}
+use Rattle.std.proofs.Common.{ℕ, ◌≡◌, ◌<◌, false, List, Contains, length, subst, ap, arith, slice_index_or}
 use Rattle.std.proofs.lemmas.Grind.{get_or_default_zero}
 use Rattle.pair_structure.specs.declared.side.Side.{Side}
 use Rattle.ctl_form.specs.declared.part.Part.TheVariants.{Next}
@@ -8,7 +8,6 @@ use Rattle.closure_sets.specs.Label.{part_of}
 use Rattle.tableau_graph.specs.Graph.{graph_of}
 use Rattle.tableau_graph.specs.Rules.{IsTableau}
 use Rattle.tableau_graph.specs.TableauParts.{TableauParts, and_at, edges_at, row_of}
-use Rattle.tableau_graph.specs.declared.nodes.AndNode.{AndNode}
 
 pub contained : (xs : List ℕ) (i : ℕ) → i < length xs → Contains xs (slice_index_or xs i 0)
 contained xs i lt = (i, lt, get_or_default_zero xs i (slice_index_or xs i 0) lt)
@@ -41,7 +40,3 @@ next_below t k n i h side small p has =
     let all = k.all_ands in
     let s = k.rules.successors n (omega (arith, small, all)) in
     s.within ((graph_of t).next_or n i) (s.each i h side p has).0
-
--- a row that was found to have a member
-pub row_has : (ands nodes : List AndNode) (n i j : ℕ) (b : Bool) → nodes ≡ ands → j ≡ i → b ≡ row_of (and_at nodes n) j → b ≡ true → Has (row_of (and_at ands n)) i
-row_has ands nodes n i j b e f r t = ap (λ (l : List AndNode). row_of (and_at l n) i) (sym e) ∙ ap (row_of (and_at nodes n)) (sym f) ∙ sym r ∙ t

@@ -1,7 +1,6 @@
 -- The node that is picked is a best one.
 use Rattle.std.proofs.Common.{ℕ, ◌≡◌, ◌⊎◌, ◌≤◌, ◌&&◌, inl, inr, Bool, true, false, cond, Option, Some, None, List, [], ◌∷◌, Contains, refl, subst, sym, arith, ◌∙◌, nat_lt}
 use Rattle.std.proofs.lemmas.Bool.{and_parts}
-use Rattle.std.proofs.lemmas.List.Elements.{Contains-append_left, Contains-append_right, Contains-append_cases, Contains-push, Contains-push_cases}
 use Rattle.deletion_rules.specs.inside.Picking.{IsBest}
 use Rattle.deletion_rules.proofs.Basics.{Contains-cons, Contains-cons_more, Contains-cons_cases, and_rest}
 use Rattle.unravel.specs.inside.Choice.{best_from, is_lower}
