@@ -1,5 +1,6 @@
 -- The bytes of a file are refused by one text.
-use Rattle.std.proofs.Common.{ℕ, ◌≡◌, List, refl}
+use Rattle.std.proofs.Common.{ℕ, suc, ◌≡◌, ◌<◌, List, refl, arith}
+use Rattle.std.proofs.Math.Nat.{lt_of_not-le}
 use Rattle.pair_structure.specs.Role.{RoleParts}
 use Rattle.ctl_form.specs.declared.pair_spec.PairSpec.{PairSpec}
 use Rattle.conjunctive_compose.specs.System.{SystemParts}
@@ -17,6 +18,13 @@ use Rattle.firing_journal.specs.Place.{before_head}
 use Rattle.firing_journal.specs.Text.{IsRefused as IsJournalRefused, journals}
 use Rattle.firing_journal.proofs.Texts.{journals_lawful}
 use Rattle.skeleton_tool.specs.Refusal.{refused_text}
+
+-- of two numbers neither is below the other
+pub same_if_neither : (a b : ℕ) → (a < b → ⊥) → (b < a → ⊥) → a ≡ b
+same_if_neither a b below above =
+    let le : b < suc a = lt_of_not-le below in
+    let ge : a < suc b = lt_of_not-le above in
+    omega arith
 
 -- one refusal has one text
 same_refusal : (word : List ℕ) (line at : ℕ) (c d : TextCause) → IsSameRefusal line at c d → refused_text word line c ≡ refused_text word at d
