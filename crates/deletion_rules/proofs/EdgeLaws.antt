@@ -11,7 +11,8 @@ use Rattle.tableau_graph.specs.Graph.{graph_of}
 use Rattle.tableau_graph.specs.Rules.{IsTableau}
 use Rattle.tableau_graph.specs.TableauParts.{TableauParts, and_at, edges_at, is_some_next, one_more, row_of, somes_below}
 use Rattle.deletion_rules.specs.inside.Edges.{arrow_of, is_next, AreArrows, AreParents, IsArrow, IsParent, Leads}
-use Rattle.deletion_rules.specs.inside.Lists.{list_at, AreEmpty, StandsBefore}
+use Rattle.pair_structure.specs.Lists.{list_at, AreEmpty}
+use Rattle.deletion_rules.specs.inside.Prefix.{StandsBefore}
 use Rattle.deletion_rules.specs.declared.edges.Arrow.{Arrow}
 use Rattle.deletion_rules.proofs.Seen.{next_of_part}
 use Rattle.deletion_rules.proofs.Within.{next_below}

@@ -1,7 +1,8 @@
 -- Reaching, an OR node at a time.
 use Rattle.std.proofs.Common.{ℕ, ◌≡◌, ◌⊎◌, ◌<◌, ◌≤◌, ◌+◌, inl, inr, Bool, List, Contains, length, refl, subst, sym, ◌∙◌, slice_index_or}
 use Rattle.std.proofs.lemmas.Grind.{get_or_default_zero}
-use Rattle.deletion_rules.specs.inside.Lists.{list_at, StandsBefore}
+use Rattle.pair_structure.specs.Lists.{list_at}
+use Rattle.deletion_rules.specs.inside.Prefix.{StandsBefore}
 use Rattle.deletion_rules.specs.inside.Spread.{IsParentOf, Reaching}
 use Rattle.deletion_rules.proofs.Standing.{none_before, stands_all, stands_cases, stands_here, stands_in, stands_more}
 

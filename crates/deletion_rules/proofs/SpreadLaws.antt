@@ -18,7 +18,7 @@ use Rattle.tableau_graph.specs.TableauParts.{TableauParts, edges_at}
 use Rattle.deletion_rules.specs.inside.Cursors.{flag_of, AreCursors}
 use Rattle.deletion_rules.specs.Deletion.{HasLower, Falls, GoesOnBy}
 use Rattle.deletion_rules.specs.inside.Edges.{arrow_of, AreEdges}
-use Rattle.deletion_rules.specs.inside.Lists.{list_at}
+use Rattle.pair_structure.specs.Lists.{list_at}
 use Rattle.deletion_rules.specs.Marks.{lives_of, mark_at, open_count, rank_of, AreMarks, IsSeen, IsMarkedBy}
 use Rattle.deletion_rules.specs.inside.Spread.{AreFirst, IsAdmitted, IsArrowTo, IsLed, IsLedBy, IsMarked, IsMetAt, IsParentOf, IsPassing, IsReaching, IsSpread, Reaching, Visits}
 use Rattle.deletion_rules.specs.Targets.{IsTarget, target_with}

@@ -7,7 +7,7 @@ use Rattle.std.proofs.lemmas.Grind.{get_or_default_zero}
 use Rattle.std.proofs.lemmas.List.{get_or_default, get_or_past, get_or-set_same, get_or-set_other}
 use Rattle.tableau_graph.specs.TableauParts.{edges_at}
 use Rattle.deletion_rules.specs.inside.Cursors.{flag_of, AreCursors, EachIs, HasPassed}
-use Rattle.deletion_rules.specs.inside.Lists.{StandsBefore}
+use Rattle.deletion_rules.specs.inside.Prefix.{StandsBefore}
 
 pub none_before : {A : Type 0} (xs : List A) (x : A) → StandsBefore xs 0 x → ⊥
 none_before xs x h = omega (arith, h.1)

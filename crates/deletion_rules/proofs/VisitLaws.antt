@@ -12,7 +12,8 @@ use Rattle.tableau_graph.specs.Graph.{graph_of}
 use Rattle.tableau_graph.specs.Rules.{IsTableau}
 use Rattle.tableau_graph.specs.TableauParts.{TableauParts, edges_at}
 use Rattle.deletion_rules.specs.inside.Cursors.{flag_of, EachIs}
-use Rattle.deletion_rules.specs.inside.Lists.{list_at, StandsBefore}
+use Rattle.pair_structure.specs.Lists.{list_at}
+use Rattle.deletion_rules.specs.inside.Prefix.{StandsBefore}
 use Rattle.deletion_rules.specs.Marks.{lives_of, mark_at, open_count}
 use Rattle.deletion_rules.specs.inside.Spread.{IsAdmitted, IsArrowTo, IsLed, IsLedBy, IsMarked, IsPassing, IsReaching, Visits}
 use Rattle.deletion_rules.specs.Tests.{has_member}

@@ -1,7 +1,7 @@
 -- The machine's own words: no public contract reaches them.
 pub mod Cursors
 pub mod Edges
-pub mod Lists
+pub mod Prefix
 pub mod Picking
 pub mod PositionOrder
 pub mod Spread

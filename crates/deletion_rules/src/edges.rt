@@ -2,8 +2,7 @@ ghost use Rattle.std.specs.Prelude.{◌≡◌, ◌+◌, ◌<◌, length, IfOk, O
 ghost use Rattle.closure_sets.specs.ClosureParts.{count};
 ghost use Rattle.deletion_rules.specs.inside.Edges.{is_next, AreArrows, AreEdges, AreParents};
 
-use crate::lists::Lists;
-use pair_structure::Memory;
+use pair_structure::{Lists, Memory};
 use std::alloc::Global;
 use tableau_graph::{Tableau, is_some_next};
 
@@ -39,20 +38,25 @@ fn parents_of(alloc: Global, t: &Tableau) -> Result<Lists<u64>, Memory>
     let ors = t.ors().len();
     let mut parents = Lists::empty(alloc, t.ands().len())?;
     for or in 0..ors {
-        add_parent(t, or as u64, &mut parents)?;
+        add_parent(alloc, t, or as u64, &mut parents)?;
     }
     Ok(parents)
 }
 
 /// Puts the OR node down as a parent of each of its children.
-fn add_parent(t: &Tableau, or: u64, parents: &mut Lists<u64>) -> Result<(), Memory>
+fn add_parent(
+    alloc: Global,
+    t: &Tableau,
+    or: u64,
+    parents: &mut Lists<u64>,
+) -> Result<(), Memory>
     requires or { or < length t.now.ors }
     requires before { AreParents t.now or parents.old }
     ensures { OnOk result (AreParents t.now (or + 1) parents.new) }
 {
     t.tell_rules();
     for child in t.children(or) {
-        parents.push(*child, or)?;
+        parents.push(alloc, *child as usize, or)?;
     }
     Ok(())
 }
@@ -63,13 +67,18 @@ fn arrows_of(alloc: Global, t: &Tableau) -> Result<Lists<Arrow>, Memory>
     let ands = t.ands().len();
     let mut arrows = Lists::empty(alloc, t.ors().len())?;
     for and in 0..ands {
-        add_arrows(t, and as u64, &mut arrows)?;
+        add_arrows(alloc, t, and as u64, &mut arrows)?;
     }
     Ok(arrows)
 }
 
 /// Puts each member EXs h of the node's row down at the OR node that it leads to. One pass over the members.
-fn add_arrows(t: &Tableau, and: u64, arrows: &mut Lists<Arrow>) -> Result<(), Memory>
+fn add_arrows(
+    alloc: Global,
+    t: &Tableau,
+    and: u64,
+    arrows: &mut Lists<Arrow>,
+) -> Result<(), Memory>
     requires and { and < length t.now.ands }
     requires before { AreArrows t.now and arrows.old }
     ensures { OnOk result (AreArrows t.now (and + 1) arrows.new) }
@@ -78,7 +87,8 @@ fn add_arrows(t: &Tableau, and: u64, arrows: &mut Lists<Arrow>) -> Result<(), Me
     let mut place = 0;
     for member in 0..t.closure().count() {
         if is_next(t, and, member) {
-            arrows.push(t.successor_at(and, place), Arrow { node: and, member })?;
+            let or = t.successor_at(and, place) as usize;
+            arrows.push(alloc, or, Arrow { node: and, member })?;
             place += 1;
         }
     }

@@ -6,7 +6,6 @@ mod deleting;
 mod edges;
 mod lasting;
 mod laws;
-mod lists;
 mod marking;
 mod position;
 mod pruning;

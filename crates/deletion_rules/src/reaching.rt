@@ -1,9 +1,8 @@
 ghost use Rattle.std.specs.Prelude.{◌≡◌, ◌<◌, ℕ, Contains, [], length, IfOk, OnOk};
-ghost use Rattle.deletion_rules.specs.inside.Lists.{list_at};
+ghost use Rattle.pair_structure.specs.Lists.{list_at};
 ghost use Rattle.deletion_rules.specs.inside.Spread.{Reaching, IsParentOf};
 
-use crate::lists::Lists;
-use pair_structure::Memory;
+use pair_structure::{Lists, Memory};
 use std::alloc::Global;
 
 /// Reaches each OR node of which one of the nodes is a child, and lists those that were not reached before. Linear in the nodes' parents.
@@ -13,13 +12,12 @@ pub(crate) fn reach(
     nodes: &[u64],
     reached: &mut [bool],
 ) -> Result<Vec<u64>, Memory>
-    requires nodes { (n : ℕ) → Contains nodes.now n → n < length parents.now }
     requires parents { (n o : ℕ) → Contains (list_at parents.now n) o → o < length reached.old }
     ensures { IfOk result (λ fresh. Reaching (IsParentOf parents.now nodes.now) reached.old [] reached.new fresh.items) }
 {
     let mut fresh = Vec::new(alloc);
     for node in nodes {
-        reach_each(parents.list(*node), reached, &mut fresh)?;
+        reach_each(parents.list(*node as usize), reached, &mut fresh)?;
     }
     Ok(fresh)
 }

@@ -1,13 +1,12 @@
 ghost use Rattle.std.specs.Prelude.{◌≡◌, ◌<◌, ℕ, [], Contains, length, IfOk, OnOk};
 ghost use Rattle.deletion_rules.specs.inside.Edges.{AreEdges};
-ghost use Rattle.deletion_rules.specs.inside.Lists.{list_at};
+ghost use Rattle.pair_structure.specs.Lists.{list_at};
 ghost use Rattle.deletion_rules.specs.inside.Thinning.{Deletes, IsLosing, IsThinned, IsThinning, Loses};
 ghost use Rattle.deletion_rules.specs.declared.edges.Arrow.{Arrow};
 
 use crate::cursors::{cursors, flags, is_through};
 use crate::edges::{Arrow, Edges};
-use crate::lists::Lists;
-use pair_structure::Memory;
+use pair_structure::{Lists, Memory};
 use std::alloc::Global;
 use tableau_graph::{Tableau, tableau_covers, tableau_is_graph};
 
@@ -67,14 +66,13 @@ fn lose_parents(
     nodes: &[u64],
     thinning: &mut Thinning,
 ) -> Result<Vec<u64>, Memory>
-    requires nodes { (n : ℕ) → Contains nodes.now n → n < length parents.now }
     requires parents { (n o : ℕ) → Contains (list_at parents.now n) o → o < length t.now.ors }
     requires thinning { IsThinning t.now thinning.old }
     ensures { IfOk result (λ ors. Loses t.now thinning.old [] thinning.new ors.items) }
 {
     let mut ors = Vec::new(alloc);
     for node in nodes {
-        lose_each(t, parents.list(*node), thinning, &mut ors)?;
+        lose_each(t, parents.list(*node as usize), thinning, &mut ors)?;
     }
     Ok(ors)
 }
@@ -126,14 +124,13 @@ fn delete_all(
     ors: &[u64],
     thinning: &mut Thinning,
 ) -> Result<Vec<u64>, Memory>
-    requires ors { (o : ℕ) → Contains ors.now o → o < length arrows.now }
     requires arrows { (o : ℕ) (arrow : Arrow) → Contains ors.now o → Contains (list_at arrows.now o) arrow → IsLosing t.now thinning.old.lives.items arrow }
     requires thinning { IsThinning t.now thinning.old }
     ensures { IfOk result (λ nodes. Deletes t.now thinning.old [] thinning.new nodes.items) }
 {
     let mut nodes = Vec::new(alloc);
     for or in ors {
-        delete_each(t, arrows.list(*or), thinning, &mut nodes)?;
+        delete_each(t, arrows.list(*or as usize), thinning, &mut nodes)?;
     }
     Ok(nodes)
 }

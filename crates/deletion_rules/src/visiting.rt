@@ -1,5 +1,5 @@
 ghost use Rattle.std.specs.Prelude.{◌≡◌, ◌<◌, ℕ, ◌&&◌, ◌↔◌, Contains, IsTrue, length, true, OnOk};
-ghost use Rattle.deletion_rules.specs.inside.Lists.{list_at};
+ghost use Rattle.pair_structure.specs.Lists.{list_at};
 ghost use Rattle.deletion_rules.specs.inside.Cursors.{AreCursors};
 ghost use Rattle.deletion_rules.specs.inside.Spread.{IsAdmitted, IsArrowTo, IsNextTime, IsReaching, Visits};
 ghost use Rattle.deletion_rules.specs.Targets.{IsTarget};
@@ -8,7 +8,6 @@ ghost use Rattle.deletion_rules.specs.declared.edges.Arrow.{Arrow};
 
 use crate::cursors::is_through;
 use crate::edges::Arrow;
-use crate::lists::Lists;
 use crate::target::Target;
 use pair_structure::{Memory, Side};
 use tableau_graph::Tableau;
@@ -42,7 +41,6 @@ pub(crate) fn visit_each(
     requires lives { length m.now.lives.now ≡ length m.now.tableau.now.ands }
     requires reached { length reached.now ≡ length m.now.tableau.now.ors }
     requires target { IsTarget m.now.tableau.now.closure m.now.target }
-    requires ors { (o : ℕ) → Contains ors.now o → o < length arrows.now }
     requires arrows { (o : ℕ) (arrow : Arrow) → Contains ors.now o → Contains (list_at arrows.now o) arrow → IsReaching m.now.tableau.now reached.now arrow }
     requires marks { length front.old.marks.items ≡ length m.now.tableau.now.ands }
     requires cursors { AreCursors (length m.now.tableau.now.ands) m.now.tableau.now.successors reached.now true front.old.cursors.items }
@@ -50,7 +48,7 @@ pub(crate) fn visit_each(
     ensures cursors { OnOk result (AreCursors (length m.now.tableau.now.ands) m.now.tableau.now.successors reached.now true front.new.cursors.items) }
 {
     for or in ors {
-        visit_arrows(m, arrows.list(*or), reached, round, front)?;
+        visit_arrows(m, arrows.list(*or as usize), reached, round, front)?;
     }
     Ok(())
 }

@@ -3,6 +3,7 @@ ghost use Rattle.pair_structure.specs.Lists.{list_at, AreEmpty};
 
 use std::alloc::{AllocError, Global};
 use std::marker::Model;
+use std::mem;
 
 /// Lists of items, by the numbers of the lists. It grows as lists are reached; a list that was not reached is empty.
 #[derive(Debug, Drop)]
@@ -60,6 +61,17 @@ impl<T: Drop> Lists<T> {
         self.reach(alloc, number)?;
         self.lists[number].push(item)?;
         Ok(())
+    }
+
+    /// Puts these items in the place of one list, and gives those that stood there. Constant time.
+    pub fn replace(&mut self, number: usize, items: Vec<T>) -> Vec<T>
+        requires { number < length self.old }
+        ensures taken { result.items ≡ list_at self.old number }
+        ensures size { length self.new ≡ length self.old }
+        ensures here { list_at self.new number ≡ items.items }
+        ensures elsewhere { (k : ℕ) → (number ≡ k → ⊥) → list_at self.new k ≡ list_at self.old k }
+    {
+        mem::replace(&mut self.lists[number], items)
     }
 
     fn reach(&mut self, alloc: Global, number: usize) -> Result<(), AllocError>

@@ -49,10 +49,10 @@ number_found states arcs rows move numbering follows = found follows.arc
 
 -- a move of the side goes into the list of its arc
 pub AreGathered-more : (states : List (ℕ × ℕ)) (before : List Move) (move : Move) (side : Side) (arcs : List LocalArc) (rows : List (List ℕ)) (lists pushed : List (List Command)) → IsNumbering rows arcs → FollowsArc states arcs move → move.side ≡ side
-    → length pushed ≡ length lists → list_at pushed (number_of states rows move) ≡ list_at lists (number_of states rows move) ++ command_of states move ∷ []
+    → (number_of states rows move < length lists → length pushed ≡ length lists) → list_at pushed (number_of states rows move) ≡ list_at lists (number_of states rows move) ++ command_of states move ∷ []
     → ((k : ℕ) → (number_of states rows move ≡ k → ⊥) → list_at pushed k ≡ list_at lists k) → AreGathered states before side arcs lists → AreGathered states (before ++ move ∷ []) side arcs pushed
 AreGathered-more states before move side arcs rows lists pushed numbering follows same_side size here elsewhere gathered = record {
-  count = size ∙ gathered.count;
+  count = size (subst (λ n. number_of states rows move < n) (sym gathered.count) found.0) ∙ gathered.count;
   each = λ k lt. elim (cases_eq (number_of states rows move) k) [
     | inl same ↦ subst (λ k. list_at pushed k ≡ given_on states side (arc_at arcs k) (before ++ move ∷ [])) same at_number
     | inr differ ↦ elsewhere k differ ∙ gathered.each k lt ∙ sym (given_no states side (arc_at arcs k) before move (apart k lt differ (takes states side (arc_at arcs k) move) refl))
@@ -89,12 +89,12 @@ AreGathered-over states before move side arcs lists other gathered = record {
 -- the next of the moves, where it is one of the side
 pub AreGathered-taken : (states : List (ℕ × ℕ)) (moves : List Move) (side : Side) (arcs : List LocalArc) (rows : List (List ℕ)) (items : List Move) (n : ℕ) (d : Move) (lists pushed then : List (List Command)) (arc : ℕ) (command : Command)
     → items ≡ moves → n < length items → AreFollowed (record { states = states; moves = moves }) side arcs → IsNumbering rows arcs → (get_or items n d).side ≡ side → arc ≡ number_of states rows (get_or items n d) → command ≡ command_of states (get_or items n d)
-    → length pushed ≡ length lists → list_at pushed arc ≡ list_at lists arc ++ command ∷ [] → ((k : ℕ) → (arc ≡ k → ⊥) → list_at pushed k ≡ list_at lists k) → then ≡ pushed
+    → (arc < length lists → length pushed ≡ length lists) → list_at pushed arc ≡ list_at lists arc ++ command ∷ [] → ((k : ℕ) → (arc ≡ k → ⊥) → list_at pushed k ≡ list_at lists k) → then ≡ pushed
     → AreGathered states (take n moves) side arcs lists → AreGathered states (take (n + 1) moves) side arcs then
 AreGathered-taken states moves side arcs rows items n d lists pushed then arc command items_are lt followed numbering same_side arc_is command_is size here elsewhere then_is gathered =
     let follows : FollowsArc states arcs (get_or items n d) = subst (λ moves. AreFollowed (record { states = states; moves = moves }) side arcs) (sym items_are) followed n d lt same_side in
     let before : AreGathered states (take n items) side arcs lists = subst (λ moves. AreGathered states (take n moves) side arcs lists) (sym items_are) gathered in
-    let more = AreGathered-more states (take n items) (get_or items n d) side arcs rows lists pushed numbering follows same_side size (rw (← arc_is, ← command_is) here) (rw (← arc_is) elsewhere) before in
+    let more = AreGathered-more states (take n items) (get_or items n d) side arcs rows lists pushed numbering follows same_side (rw (← arc_is) size) (rw (← arc_is, ← command_is) here) (rw (← arc_is) elsewhere) before in
     subst (λ moves. AreGathered states (take (n + 1) moves) side arcs then) items_are (rw (take_more items n d lt, then_is) more)
 
 -- and where it is not

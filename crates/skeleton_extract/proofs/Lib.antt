@@ -2,7 +2,6 @@ pub mod ArcNumbering
 pub mod ArcTexts
 pub mod CommandOrder
 pub mod Gathering
-pub mod ListAt
 pub mod Moving
 pub mod OnePairState
 pub mod Places

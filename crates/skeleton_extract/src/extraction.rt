@@ -4,9 +4,9 @@ ghost use Rattle.skeleton_extract.specs.Commands.{AreListed, IsSkeleton};
 ghost use Rattle.skeleton_extract.specs.inside.Gathered.{AreFollowed, AreGathered, command_of, number_of};
 
 use crate::arc_numbers::ArcNumbers;
-use crate::command_lists::CommandLists;
+use crate::arranging::arrange;
 use crate::{Command, Skeleton};
-use pair_structure::{Memory, Move, PairStructure, Role, Side, local_of, opposite};
+use pair_structure::{Lists, Memory, Move, PairStructure, Role, Side, local_of, opposite};
 use std::alloc::{AllocError, Global};
 
 /// The commands of the moves of a structure over the two roles. Two passes over the moves; moves times their logarithm, to put the
@@ -26,12 +26,12 @@ fn listed(
     m: &PairStructure,
     side: Side,
     role: &Role,
-) -> Result<CommandLists, AllocError>
+) -> Result<Lists<Command>, AllocError>
     requires { AreFollowed m.now side role.now.arcs }
     ensures { IfOk result (AreListed m.now side role.now.arcs) }
 {
     let mut lists = gathered(alloc, m, side, role)?;
-    lists.arrange();
+    arrange(alloc, &mut lists, role.arcs().len());
     Ok(lists)
 }
 
@@ -41,16 +41,16 @@ fn gathered(
     m: &PairStructure,
     side: Side,
     role: &Role,
-) -> Result<CommandLists, AllocError>
+) -> Result<Lists<Command>, AllocError>
     requires { AreFollowed m.now side role.now.arcs }
     ensures { IfOk result (AreGathered m.now.states m.now.moves side role.now.arcs) }
 {
     let numbers = ArcNumbers::of_role(role);
-    let mut lists = CommandLists::empty(alloc, role.arcs().len())?;
+    let mut lists = Lists::empty(alloc, role.arcs().len())?;
     for step in m.moves() {
         if step.side == side {
             let arc = number_of(m, &numbers, step);
-            lists.push(arc as usize, command_of(m, step))?;
+            lists.push(alloc, arc as usize, command_of(m, step))?;
         }
     }
     Ok(lists)

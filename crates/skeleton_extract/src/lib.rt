@@ -2,8 +2,8 @@
 #![tactic(auto)]
 
 mod arc_numbers;
+mod arranging;
 mod command;
-mod command_lists;
 mod extraction;
 mod laws;
 mod permission;

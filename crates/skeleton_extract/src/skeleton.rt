@@ -3,16 +3,15 @@ ghost use Rattle.skeleton_extract.specs.Commands.{AllRise, IsRising, commands_of
 ghost use Rattle.skeleton_extract.specs.Permission.{permitted_of, picked};
 
 use crate::Command;
-use crate::command_lists::CommandLists;
 use crate::permission::permitted_of;
-use pair_structure::Side;
+use pair_structure::{Lists, Side};
 use std::marker::Model;
 
 /// For each side and each arc of that side's role the commands, rising by `other`, then `x`, then `set`.
 #[derive(Debug, Drop)]
 pub struct Skeleton {
-    a: CommandLists,
-    b: CommandLists,
+    a: Lists<Command>,
+    b: Lists<Command>,
 }
 
 impl Model for Skeleton {
@@ -26,7 +25,7 @@ impl Model for Skeleton {
 }
 
 impl Skeleton {
-    pub(crate) fn of(a: CommandLists, b: CommandLists) -> Skeleton
+    pub(crate) fn of(a: Lists<Command>, b: Lists<Command>) -> Skeleton
         requires a_rise { AllRise a }
         requires b_rise { AllRise b }
         ensures { result ≡ record { a = a; b = b } }
@@ -34,7 +33,7 @@ impl Skeleton {
         Skeleton { a, b }
     }
 
-    pub(crate) fn lists(&self, side: Side) -> &CommandLists
+    pub(crate) fn lists(&self, side: Side) -> &Lists<Command>
         ensures lists { result.now ≡ lists_of self.now side }
         ensures rise { AllRise (lists_of self.now side) }
     {

@@ -3,10 +3,9 @@ ghost use Rattle.std.specs.List.{flat_map};
 ghost use Rattle.skeleton_extract.specs.Commands.{HasLists};
 ghost use Rattle.skeleton_extract.specs.SkeletonText.{arc_line, arc_text, arcs_text, command_line, name_at, skeleton_text};
 
-use crate::command_lists::CommandLists;
 use crate::{Command, Skeleton};
 use itoa::Buffer;
-use pair_structure::{LocalArc, Memory, Name, Role, Side};
+use pair_structure::{Lists, LocalArc, Memory, Name, Role, Side};
 use std::alloc::{AllocError, Global};
 
 /// Appends the text of the skeletons of one kind, or nothing. Linear in the text, which is written beside `into` first.
@@ -52,7 +51,7 @@ fn write_arcs(
     own: &[Name],
     other: &[Name],
     arcs: &[LocalArc],
-    lists: &CommandLists,
+    lists: &Lists<Command>,
     into: &mut Vec<u8>,
 ) -> Result<(), AllocError>
     requires { length lists.now ≡ length arcs.now }

@@ -4,7 +4,7 @@ use Rattle.pair_structure.specs.declared.side.Side.{Side}
 use Rattle.closure_sets.specs.Label.{part_of}
 use Rattle.tableau_graph.specs.Graph.{graph_of, IsSomeNext}
 use Rattle.tableau_graph.specs.TableauParts.{TableauParts, and_at, edges_at, is_some_next, row_of}
-use Rattle.deletion_rules.specs.inside.Lists.{list_at}
+use Rattle.pair_structure.specs.Lists.{list_at}
 use Rattle.deletion_rules.specs.declared.edges.Arrow.{Arrow}
 
 -- the OR node is one of the first k, and the AND node a child of it

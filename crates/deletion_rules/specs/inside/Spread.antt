@@ -8,7 +8,7 @@ use Rattle.tableau_graph.specs.TableauParts.{TableauParts}
 use Rattle.deletion_rules.specs.inside.Cursors.{flag_of}
 use Rattle.deletion_rules.specs.Deletion.{HasLower}
 use Rattle.deletion_rules.specs.inside.Edges.{IsArrow}
-use Rattle.deletion_rules.specs.inside.Lists.{list_at}
+use Rattle.pair_structure.specs.Lists.{list_at}
 use Rattle.deletion_rules.specs.Marks.{lives_of, mark_at, open_count, rank_of, AreSound, IsMarkedBy, IsSeen}
 use Rattle.deletion_rules.specs.declared.edges.Arrow.{Arrow}
 use Rattle.deletion_rules.specs.declared.target.Target.{Target}

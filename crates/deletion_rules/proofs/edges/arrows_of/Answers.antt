@@ -1,6 +1,6 @@
 use Rattle.std.proofs.Common.{◌≡◌, ◌<◌, ℕ, length, subst, ap, arith}
 use Rattle.deletion_rules.specs.inside.Edges.{AreArrows}
-use Rattle.deletion_rules.specs.inside.Lists.{AreEmpty}
+use Rattle.pair_structure.specs.Lists.{AreEmpty}
 use Rattle.deletion_rules.specs.declared.edges.Arrow.{Arrow}
 use Rattle.deletion_rules.proofs.EdgeLaws.{arrows_none}
 use Rattle.deletion_rules.proofs.edges.arrows_of.Goals as goal

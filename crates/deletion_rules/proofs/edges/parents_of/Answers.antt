@@ -1,6 +1,6 @@
 use Rattle.std.proofs.Common.{◌≡◌, ◌<◌, ℕ, length, subst, ap, arith}
 use Rattle.deletion_rules.specs.inside.Edges.{AreParents}
-use Rattle.deletion_rules.specs.inside.Lists.{AreEmpty}
+use Rattle.pair_structure.specs.Lists.{AreEmpty}
 use Rattle.deletion_rules.proofs.EdgeLaws.{parents_none}
 use Rattle.deletion_rules.proofs.edges.parents_of.Goals as goal
 

@@ -4,16 +4,8 @@ use Rattle.deletion_rules.specs.inside.Spread.{IsArrowTo, IsParentOf, Reaching, 
 use Rattle.deletion_rules.proofs.SpreadLaws.{arrow_reaches, cursors_stay, node_below, or_below, parent_below, spread_done, spread_next}
 use Rattle.deletion_rules.proofs.marking.spread.Goals as goal
 
-pub reach-requires-clause-nodes : goal.reach-requires-clause-nodes
-reach-requires-clause-nodes c = rw c.deref.ensures.value (node_below c.args.m.now.tableau.now c.tell_rules.ensures c.args.m.now.lives.now c.requires.lives c.args.m.now.target c.requires.target (c.loop-alloc.round + 1) c.loop-alloc.front.marks.items c.loop-alloc.reached c.loop-alloc.front.nodes.items c.loop-alloc.invariant.spread c.args.edges.now.parents c.args.edges.now.arrows c.requires.edges)
-
-pub reach-requires-clause-parents : goal.reach-requires-clause-parents
-reach-requires-clause-parents c = parent_below c.args.m.now.tableau.now c.tell_rules.ensures c.args.m.now.lives.now c.requires.lives c.args.m.now.target c.requires.target (c.loop-alloc.round + 1) c.loop-alloc.front.marks.items c.loop-alloc.reached c.loop-alloc.front.nodes.items c.loop-alloc.invariant.spread c.args.edges.now.parents c.args.edges.now.arrows c.requires.edges
-
-pub visit_each-requires-clause-ors : goal.visit_each-requires-clause-ors
-visit_each-requires-clause-ors c =
-    let reaching = subst (λ (nodes : List ℕ). Reaching (IsParentOf c.args.edges.now.parents nodes) c.loop-alloc.reached [] c.reach.new.reached c.in_ok-ors.ors.items) c.deref.ensures.value c.in_ok-ors.ensures in
-    rw c.deref-in-loop-alloc.ensures.value (or_below c.args.m.now.tableau.now c.tell_rules.ensures c.args.m.now.lives.now c.requires.lives c.args.m.now.target c.requires.target (c.loop-alloc.round + 1) c.loop-alloc.front.marks.items c.loop-alloc.reached c.loop-alloc.front.nodes.items c.loop-alloc.invariant.spread c.args.edges.now.parents c.args.edges.now.arrows c.requires.edges c.reach.new.reached c.in_ok-ors.ors.items reaching)
+pub reach-requires : goal.reach-requires
+reach-requires c = parent_below c.args.m.now.tableau.now c.tell_rules.ensures c.args.m.now.lives.now c.requires.lives c.args.m.now.target c.requires.target (c.loop-alloc.round + 1) c.loop-alloc.front.marks.items c.loop-alloc.reached c.loop-alloc.front.nodes.items c.loop-alloc.invariant.spread c.args.edges.now.parents c.args.edges.now.arrows c.requires.edges
 
 pub visit_each-requires-clause-arrows : goal.visit_each-requires-clause-arrows
 visit_each-requires-clause-arrows c =

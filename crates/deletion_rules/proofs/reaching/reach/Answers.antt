@@ -6,9 +6,6 @@ use Rattle.deletion_rules.proofs.reaching.reach.Goals as goal
 pub loop-node-init : goal.loop-node-init
 loop-node-init c = rw c.new-fresh.ensures.items (parents_begin c.args.parents.now c.args.nodes.now c.args.reached.now [])
 
-pub list-requires : goal.list-requires
-list-requires c = c.requires.nodes (slice_index_or c.args.nodes.now c.loop-node.node-index 0) (c.loop-node.node-index, c.loop-node-test.true, get_or_default_zero c.args.nodes.now c.loop-node.node-index (slice_index_or c.args.nodes.now c.loop-node.node-index 0) c.loop-node-test.true)
-
 pub reach_each-requires : goal.reach_each-requires
 reach_each-requires c = λ o there.
     let lt = c.requires.parents (slice_index_or c.args.nodes.now c.loop-node.node-index 0) o (subst (λ (l : List ℕ). Contains l o) c.list.ensures there) in

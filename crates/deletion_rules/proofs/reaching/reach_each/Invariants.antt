@@ -1,4 +1,4 @@
-use Rattle.deletion_rules.specs.inside.Lists.{StandsBefore}
+use Rattle.deletion_rules.specs.inside.Prefix.{StandsBefore}
 use Rattle.deletion_rules.specs.inside.Spread.{Reaching}
 use Rattle.deletion_rules.proofs.reaching.reach_each.Given as goal
 

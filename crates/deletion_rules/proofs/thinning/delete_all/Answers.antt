@@ -4,9 +4,6 @@ use Rattle.deletion_rules.proofs.ThinningLaws.{deletes_then, losing_still}
 use Rattle.deletion_rules.proofs.Within.{contained}
 use Rattle.deletion_rules.proofs.thinning.delete_all.Goals as goal
 
-pub list-requires : goal.list-requires
-list-requires c = c.requires.ors (slice_index_or c.args.ors.now c.loop-or.or-index 0) (contained c.args.ors.now c.loop-or.or-index c.loop-or-test.true)
-
 pub delete_each-requires-clause-arrows : goal.delete_each-requires-clause-arrows
 delete_each-requires-clause-arrows c = λ arrow there. losing_still c.args.t.now c.args.thinning.now c.loop-or.thinning [] c.loop-or.nodes.items arrow c.loop-or.invariant (c.requires.arrows (slice_index_or c.args.ors.now c.loop-or.or-index 0) arrow (contained c.args.ors.now c.loop-or.or-index c.loop-or-test.true) (subst (λ (l : List Arrow). Contains l arrow) c.list.ensures there))
 

@@ -3,9 +3,6 @@ use Rattle.deletion_rules.proofs.ThinningLaws.{loses_then}
 use Rattle.deletion_rules.proofs.Within.{contained}
 use Rattle.deletion_rules.proofs.thinning.lose_parents.Goals as goal
 
-pub list-requires : goal.list-requires
-list-requires c = c.requires.nodes (slice_index_or c.args.nodes.now c.loop-node.node-index 0) (contained c.args.nodes.now c.loop-node.node-index c.loop-node-test.true)
-
 pub lose_each-requires-clause-parents : goal.lose_each-requires-clause-parents
 lose_each-requires-clause-parents c = λ o there. c.requires.parents (slice_index_or c.args.nodes.now c.loop-node.node-index 0) o (subst (λ (l : List ℕ). Contains l o) c.list.ensures there)
 

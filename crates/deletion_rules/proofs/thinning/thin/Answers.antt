@@ -5,20 +5,8 @@ use Rattle.deletion_rules.proofs.thinning.thin.Goals as goal
 pub loop-alloc-init : goal.loop-alloc-init
 loop-alloc-init c = record { thinning = c.in_ok-ors.ensures.thinning; thinned = thinned_none c.args.t.now c.lose_all.new.thinning.lives.items; lost = lost_after c.args.t.now _ c.lose_all.new.thinning c.in_ok-ors.ors.items c.in_ok-ors.ensures }
 
-pub delete_all-requires-clause-ors : goal.delete_all-requires-clause-ors
-delete_all-requires-clause-ors c = λ o there.
-    let lt = (c.loop-alloc.invariant.lost o (subst (λ (l : List ℕ). Contains l o) c.deref.ensures.value there)).0 in
-    let long = c.requires.edges.back.long in
-    omega (arith, lt, long)
-
 pub delete_all-requires-clause-arrows : goal.delete_all-requires-clause-arrows
 delete_all-requires-clause-arrows c = λ o arrow there at. (o, c.requires.edges.back.each o arrow at, (c.loop-alloc.invariant.lost o (subst (λ (l : List ℕ). Contains l o) c.deref.ensures.value there)).1)
-
-pub lose_parents-requires-clause-nodes : goal.lose_parents-requires-clause-nodes
-lose_parents-requires-clause-nodes c = λ n there.
-    let lt = c.in_ok-nodes.ensures.nodes (λ m none. absurd (omega (arith, none.1))) n (subst (λ (l : List ℕ). Contains l n) c.deref-in-loop-alloc.ensures.value there) in
-    let long = c.requires.edges.up.long in
-    omega (arith, lt, long)
 
 pub lose_parents-requires-clause-parents : goal.lose_parents-requires-clause-parents
 lose_parents-requires-clause-parents c = λ n o there. (c.requires.edges.up.each n o there).0

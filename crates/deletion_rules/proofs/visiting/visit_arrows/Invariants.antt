@@ -1,6 +1,6 @@
 use Rattle.std.proofs.Common.{true, length}
 use Rattle.deletion_rules.specs.inside.Cursors.{AreCursors}
-use Rattle.deletion_rules.specs.inside.Lists.{StandsBefore}
+use Rattle.deletion_rules.specs.inside.Prefix.{StandsBefore}
 use Rattle.deletion_rules.specs.inside.Spread.{Visits}
 use Rattle.deletion_rules.proofs.visiting.visit_arrows.Given as goal
 

@@ -7,9 +7,6 @@ use Rattle.deletion_rules.proofs.visiting.visit_each.Goals as goal
 pub loop-or-init : goal.loop-or-init
 loop-or-init c = record { visits = ors_begin c.args.m.now.tableau.now c.args.m.now.lives.now c.args.reached.now c.args.m.now.target c.args.round c.args.arrows.now c.args.ors.now c.args.front.now.marks.items c.args.front.now.nodes.items; cursors = c.requires.cursors }
 
-pub list-requires : goal.list-requires
-list-requires c = c.requires.ors (slice_index_or c.args.ors.now c.loop-or.or-index 0) (c.loop-or.or-index, c.loop-or-test.true, get_or_default_zero c.args.ors.now c.loop-or.or-index (slice_index_or c.args.ors.now c.loop-or.or-index 0) c.loop-or-test.true)
-
 pub visit_arrows-requires : goal.visit_arrows-requires
 visit_arrows-requires c =
     let o = slice_index_or c.args.ors.now c.loop-or.or-index 0 in

@@ -4,7 +4,7 @@ use Rattle.std.proofs.lemmas.List.Sorted.{Contains-permutation, IsPermutation-sy
 use Rattle.skeleton_extract.specs.contracts.command.CommandEq.TheImpl.Laws.{laws-law}
 use Rattle.skeleton_extract.specs.contracts.command.CommandOrd.TheImpl.Laws.{total-law, matches_eq-law}
 use Rattle.skeleton_extract.proofs.CommandOrder.{IsRising-from_sorted, IsSame-from_equal}
-use Rattle.skeleton_extract.proofs.command_lists.arrange_commands.Goals as goal
+use Rattle.skeleton_extract.proofs.arranging.arrange_commands.Goals as goal
 
 pub returns : goal.returns
 returns c =
