@@ -1,7 +1,7 @@
 //! What a kind asks: its clauses, then the formulas of the free arcs of side a and of side b.
 
 use crate::table::agree;
-use samples::{PHIL, conjuncts, pair};
+use samples::{PHIL, conjuncts, first_kind, pair};
 use std::alloc::Global;
 use std::test::Fail;
 
@@ -25,7 +25,7 @@ const COPY: &str =
 
 fn copy_told(alloc: Global) -> Result<String, Fail> {
     let spec = pair(alloc, PHIL, "a.N; EX b.T")?;
-    let kind = spec.kinds().first().ok_or("a kind")?;
+    let kind = first_kind(&spec)?;
     let copy = kind.clauses.copy(alloc)?;
     Ok(format!(in alloc; "{} {} {:?}", copy.len(), copy.is_empty(), copy.as_slice())?)
 }

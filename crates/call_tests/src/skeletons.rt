@@ -22,12 +22,19 @@ fn skeleton(alloc: Global, role: &Role, spelled: &str) -> Result<Skeleton, Fail>
     Ok(s)
 }
 
+fn written(alloc: Global, role: &Role, s: &Skeleton) -> Result<Vec<u8>, Fail>
+    requires { HasLists role.now role.now s.now }
+{
+    let kind = Name::make(alloc, "mutex")?;
+    let mut text = Vec::from_slice(alloc, b"skeleton 1\n")?;
+    write_skeleton(alloc, s, &kind, role, role, &mut text)?;
+    Ok(text)
+}
+
 fn text_told(alloc: Global) -> Result<String, Fail> {
     let role = role(alloc, BOUND)?;
     let s = skeleton(alloc, &role, FIRST)?;
-    let kind = Name::make(alloc, "mutex")?;
-    let mut text = Vec::from_slice(alloc, b"skeleton 1\n")?;
-    write_skeleton(alloc, &s, &kind, &role, &role, &mut text)?;
+    let text = written(alloc, &role, &s)?;
     to_slashes(alloc, &text)
 }
 

@@ -1,7 +1,7 @@
 //! Structures over philosophers: the first fault of parts that make none, and what a structure tells.
 
 use crate::table::{agree, expect};
-use pair_structure::{PairStructure, Role, Side, arrange};
+use pair_structure::{PairStructure, Role, Side, StructureFault, arrange};
 use samples::{BOUND, FIRST, LAMP, cut, labels, moves, role, structure};
 use std::alloc::Global;
 use std::test::Fail;
@@ -21,15 +21,22 @@ const STRUCTURES: &str = "00 10 20 | 0a1 1a2 2a0 = 3 states
 00 10 20 00 | 0a1 2a3 = no move leaves state 1
 00 10 | 0a1 = no move leaves state 1";
 
+fn made_told(alloc: Global, made: Result<PairStructure, StructureFault>) -> Result<String, Fail> {
+    match made {
+        Ok(m) => Ok(format!(in alloc; "{} states", m.states().len())?),
+        Err(fault) => Ok(format!(in alloc; "{fault}")?),
+    }
+}
+
 fn structure_told(alloc: Global, spelled: &str) -> Result<String, Fail> {
     let role = role(alloc, BOUND)?;
     let (states, steps) = cut(spelled, "|");
     let states = labels(alloc, states)?;
     let moves = moves(alloc, steps)?;
-    match PairStructure::make(alloc, &role, &role, &states, &moves) {
-        Ok(m) => Ok(format!(in alloc; "{} states", m.states().len())?),
-        Err(fault) => Ok(format!(in alloc; "{fault}")?),
-    }
+    made_told(
+        alloc,
+        PairStructure::make(alloc, &role, &role, &states, &moves),
+    )
 }
 
 #[test]

@@ -4,7 +4,7 @@ use crate::table::{agree, expect};
 use ctl_form::{Part, solves};
 use deletion_rules::{Pruned, Ranks, prune};
 use pair_structure::PairStructure;
-use samples::{BOUND, FAIR, PHIL, closure, first_role, normal, pair, role};
+use samples::{BOUND, FAIR, PHIL, closure, first_kind, first_role, normal, pair, role};
 use std::alloc::Global;
 use std::test::Fail;
 use tableau_graph::Tableau;
@@ -23,7 +23,8 @@ EF a.C; AG !a.C = dead unsatisfiable";
 fn pruned(alloc: Global, lines: &str, clauses: &str) -> Result<Pruned, Fail> {
     let role = role(alloc, lines)?;
     let closure = closure(alloc, lines, clauses)?;
-    Ok(prune(alloc, Tableau::build(alloc, &closure, &role, &role)?)?)
+    let t = Tableau::build(alloc, &closure, &role, &role)?;
+    Ok(prune(alloc, t)?)
 }
 
 fn judged(
@@ -34,7 +35,7 @@ fn judged(
 ) -> Result<&'static str, Fail> {
     let spec = pair(alloc, lines, clauses)?;
     let role = first_role(&spec)?;
-    let kind = spec.kinds().first().ok_or("a kind")?;
+    let kind = first_kind(&spec)?;
     if m.is_over(role, role) && solves(alloc, m, kind, role, role)? {
         return Ok("solves");
     }

@@ -2,12 +2,14 @@
 //! the definition, by a script that lists all paths up to a length after which nothing changes.
 
 use crate::table::expect;
-use ctl_form::{holds_at, solves};
+use ctl_form::{BitRow, Formula, holds_at, solves};
+use ctl_text::Spec;
+use pair_structure::PairStructure;
 use samples::{
-    BOUND, FIRST, LAMP, LAST, PHIL, PRIOR, TURN, UNBARRED, first_role, formula, pair, role,
-    structure,
+    BOUND, FIRST, LAMP, LAST, PHIL, PRIOR, TURN, UNBARRED, first_kind, first_role, formula, pair,
+    role, structure,
 };
-use std::alloc::Global;
+use std::alloc::{AllocError, Global};
 use std::test::Fail;
 
 /// A formula over philosophers, and its truth at each state of FIRST, LAST and PRIOR.
@@ -45,17 +47,19 @@ A[a.L U b.R] = 1110
 EG a.L = 0000
 AF (a.R & b.R) = 1111";
 
-/// A space, and the truth of a formula at each state of a structure.
-fn push_row(
-    alloc: Global,
-    text: &mut String,
-    lines: &str,
-    spelled: &str,
-    asked: &str,
-) -> Result<(), Fail> {
+fn over_one(alloc: Global, lines: &str, spelled: &str) -> Result<PairStructure, Fail> {
     let role = role(alloc, lines)?;
-    let m = structure(alloc, &role, &role, spelled)?;
-    let row = holds_at(alloc, &m, &formula(alloc, lines, asked)?)?.copy(alloc)?;
+    structure(alloc, &role, &role, spelled)
+}
+
+/// The states of the structure where the formula holds.
+fn truth(alloc: Global, m: &PairStructure, f: &Formula) -> Result<BitRow, Fail> {
+    let row = holds_at(alloc, m, f)?;
+    Ok(row.copy(alloc)?)
+}
+
+/// A space, and a digit for each state.
+fn push_digits(text: &mut String, row: &BitRow) -> Result<(), AllocError> {
     text.push(' ')?;
     for state in 0..row.len() as u64 {
         text.push(if row.has(state) { '1' } else { '0' })?;
@@ -63,17 +67,32 @@ fn push_row(
     Ok(())
 }
 
+/// A space, and the truth of a formula at each state of a structure.
+fn push_row(
+    alloc: Global,
+    text: &mut String,
+    lines: &str,
+    spelled: &str,
+    f: &Formula,
+) -> Result<(), Fail> {
+    let m = over_one(alloc, lines, spelled)?;
+    let row = truth(alloc, &m, f)?;
+    Ok(push_digits(text, &row)?)
+}
+
 fn truth_of_philosophers(alloc: Global, asked: &str) -> Result<String, Fail> {
+    let f = formula(alloc, BOUND, asked)?;
     let mut text = String::new(alloc);
     for spelled in [FIRST, LAST, PRIOR] {
-        push_row(alloc, &mut text, BOUND, spelled, asked)?;
+        push_row(alloc, &mut text, BOUND, spelled, &f)?;
     }
     Ok(text)
 }
 
 fn truth_of_lamps(alloc: Global, asked: &str) -> Result<String, Fail> {
+    let f = formula(alloc, LAMP, asked)?;
     let mut text = String::new(alloc);
-    push_row(alloc, &mut text, LAMP, TURN, asked)?;
+    push_row(alloc, &mut text, LAMP, TURN, &f)?;
     Ok(text)
 }
 
@@ -88,26 +107,19 @@ const SOLVED: &str = "AG !(a.C & b.C) = true true true
 AG !(a.C & b.C); AG (a.T -> AF a.C); AG (b.T -> AF b.C) = true false false
 AG !a.T = false false false";
 
-fn push_solved(
-    alloc: Global,
-    text: &mut String,
-    lines: &str,
-    spelled: &str,
-    clauses: &str,
-) -> Result<(), Fail> {
-    let spec = pair(alloc, lines, clauses)?;
-    let role = first_role(&spec)?;
-    let kind = spec.kinds().first().ok_or("a kind")?;
+fn is_solved(alloc: Global, spec: &Spec, spelled: &str) -> Result<bool, Fail> {
+    let role = first_role(spec)?;
+    let kind = first_kind(spec)?;
     let m = structure(alloc, role, role, spelled)?;
-    let solved = solves(alloc, &m, kind, role, role)?;
-    text.push_str(format!(in alloc; " {solved}")?.as_str())?;
-    Ok(())
+    Ok(solves(alloc, &m, kind, role, role)?)
 }
 
 fn solved_by(alloc: Global, lines: &str, clauses: &str) -> Result<String, Fail> {
+    let spec = pair(alloc, lines, clauses)?;
     let mut text = String::new(alloc);
     for spelled in [FIRST, LAST, PRIOR] {
-        push_solved(alloc, &mut text, lines, spelled, clauses)?;
+        let is = is_solved(alloc, &spec, spelled)?;
+        text.push_str(if is { " true" } else { " false" })?;
     }
     Ok(text)
 }

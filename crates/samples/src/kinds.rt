@@ -4,7 +4,7 @@
 use crate::texts::to_lines;
 use crate::words::cut;
 use closure_sets::Closure;
-use ctl_form::{Formula, Normal, whole};
+use ctl_form::{Formula, Normal, PairSpec, whole};
 use ctl_text::{Spec, read_spec};
 use pair_structure::Role;
 use std::alloc::Global;
@@ -28,6 +28,11 @@ pub fn first_role(spec: &Spec) -> Result<&Role, Fail> {
     Ok(spec.network().roles().first().ok_or("a role")?)
 }
 
+/// The first kind of a specification.
+pub fn first_kind(spec: &Spec) -> Result<&PairSpec, Fail> {
+    Ok(spec.kinds().first().ok_or("a kind")?)
+}
+
 /// The specification of one kind `k` with these clauses, of which both sides are this role.
 pub fn pair(alloc: Global, role: &str, clauses: &str) -> Result<Spec, Fail> {
     let name = cut(cut(role, "/").0, " ").1;
@@ -44,14 +49,14 @@ pub fn pair(alloc: Global, role: &str, clauses: &str) -> Result<Spec, Fail> {
 /// The formula of this text, over two such roles.
 pub fn formula(alloc: Global, role: &str, text: &str) -> Result<Formula, Fail> {
     let spec = pair(alloc, role, text)?;
-    let kind = spec.kinds().first().ok_or("a kind")?;
+    let kind = first_kind(&spec)?;
     let clause = kind.clauses.as_slice().first().ok_or("a clause")?;
     Ok(clause.copy(alloc)?)
 }
 
 /// What the first kind asks, both of whose sides are the first role.
 pub fn conjuncts(alloc: Global, spec: &Spec) -> Result<Vec<Formula>, Fail> {
-    let kind = spec.kinds().first().ok_or("a kind")?;
+    let kind = first_kind(spec)?;
     let role = first_role(spec)?;
     Ok(whole(alloc, kind.clauses.as_slice(), role, role)?)
 }

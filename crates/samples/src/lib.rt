@@ -10,7 +10,7 @@ mod texts;
 mod words;
 
 pub use graphs::{edges, processes};
-pub use kinds::{closure, conjuncts, first_role, formula, normal, pair, role, spec};
+pub use kinds::{closure, conjuncts, first_kind, first_role, formula, normal, pair, role, spec};
 pub use structures::{labels, moves, structure};
 pub use systems::system;
 pub use texts::{
