@@ -1,5 +1,6 @@
 -- Journals: the firings of a run in their order, each with the caller that made it.
 use Rattle.std.specs.Prelude.{ℕ, ◌≡◌, ◌≤◌, List, length, map, All}
+use Rattle.conjunctive_compose.specs.declared.limits.TheConstants.{MAX_CALLER}
 use Rattle.std.specs.List.{range_with_len}
 use Rattle.conjunctive_compose.specs.declared.wish.Wish.{Wish}
 use Rattle.conjunctive_compose.specs.System.{SystemParts}
@@ -29,7 +30,7 @@ wishes_of entries = map wish_of entries
 -- the wish is one of the system, and the caller one of 64
 pub record EntryFits (sys : SystemParts) (entry : Entry) : Type 0 where
   pub wish : WishFits sys entry.wish
-  pub caller : entry.caller ≤ 63
+  pub caller : entry.caller ≤ MAX_CALLER
 
 abbrev pub JournalFits : SystemParts → List Entry → Type 0
 JournalFits sys entries = All (EntryFits sys) entries

@@ -3,7 +3,7 @@ ghost use Rattle.conjunctive_compose.specs.Firing.{WishFits};
 ghost use Rattle.firing_journal.specs.Journal.{AreNumbered, EntryFits, JournalFits};
 ghost use Rattle.firing_journal.specs.Said.{HasSmallNumbers};
 
-use conjunctive_compose::{System, Wish};
+use conjunctive_compose::{MAX_CALLER, System, Wish};
 use pair_structure::Memory;
 use std::alloc::Global;
 use std::marker::Model;
@@ -64,7 +64,7 @@ impl Journal {
         Ok(())
     }
 
-    /// Whether each wish fits the system and each caller is at most 63. Linear in the entries.
+    /// Whether each wish fits the system and each caller is at most `MAX_CALLER`. Linear in the entries.
     pub fn fits(&self, system: &System) -> bool
         ensures { IsTrue result ↔ JournalFits system.now self.now }
     {
@@ -87,5 +87,5 @@ fn entry_of(number: u64, caller: u32, process: u32, arc: u32, pick: u64) -> Entr
 fn entry_fits(system: &System, entry: &Entry) -> bool
     ensures { IsTrue result ↔ EntryFits system.now entry.now }
 {
-    entry.caller <= 63 && system.fits(entry.wish)
+    entry.caller <= MAX_CALLER && system.fits(entry.wish)
 }

@@ -9,7 +9,8 @@ ghost use Rattle.firing_journal.specs.inside.View.{IsFitting, IsKnown, place_aft
 
 use crate::Journal;
 use crate::item::{Item, is_head, item_of};
-use conjunctive_compose::{System, Wish};
+use conjunctive_compose::{MAX_CALLER, System, Wish};
+use pair_structure::MAX_ARCS;
 use strict_text::{Line, is_strict};
 use text_cause::TextCause;
 
@@ -88,13 +89,13 @@ fn known(system: &System, caller: u64, process: u64, arc: u64, pick: u64) -> Opt
     ensures some { IfSome result (λ x. (x.0 ≡ caller) × (x.1 ≡ wish_of_numbers process arc pick) × IsKnown system.now caller process arc) }
     ensures none { IfNone result (IsKnown system.now caller process arc → ⊥) }
 {
-    if caller > 63 {
+    if caller > MAX_CALLER as u64 {
         return None;
     }
     if process >= system.network().processes().len() as u64 {
         return None;
     }
-    if arc >= 128 {
+    if arc >= MAX_ARCS as u64 {
         return None;
     }
     let wish = Wish {

@@ -1,4 +1,5 @@
 ghost use Rattle.std.specs.Prelude.{◌≡◌, ◌↔◌, ◌≤◌, All, IsTrue, IfOk, MatchOption, length};
+ghost use Rattle.interconnection.specs.declared.limits.TheConstants.{MAX_KINDS};
 ghost use Rattle.pair_structure.specs.Structure.{IsOver};
 ghost use Rattle.ctl_form.specs.Kind.{role_at, SatisfiesKind, Solves};
 ghost use Rattle.solution_text.specs.Answers.{HasRoles};
@@ -31,7 +32,7 @@ fn first_unsatisfied(
     structures: &[PairStructure],
 ) -> Result<Option<u8>, Memory>
     requires roles { All (HasRoles (length roles.now)) kinds.now }
-    requires few { length kinds.now ≤ 16 }
+    requires few { length kinds.now ≤ MAX_KINDS }
     requires over { AreOver roles.now kinds.now structures.now }
     ensures { IfOk result (λ first. MatchOption first (Solves roles.now kinds.now structures.now) (IsFirstFailing roles.now kinds.now structures.now)) }
 {

@@ -1,4 +1,5 @@
 ghost use Rattle.std.specs.Prelude.{◌≡◌, ◌↔◌, ◌<◌, ◌≤◌, IsTrue, IfOk, IfErr, IfSome, IfNone, All, Contains, codes, length, position};
+ghost use Rattle.pair_structure.specs.declared.limits.TheConstants.{MAX_LOCALS};
 ghost use Rattle.std.specs.Str.{bytes_eq};
 ghost use Rattle.pair_structure.specs.Structure.{IsPairStructure};
 ghost use Rattle.text_cause.specs.Cause.{IsFree};
@@ -206,7 +207,7 @@ fn label_of(a: &Role, b: &Role, p: &[u8], q: &[u8]) -> Result<(u8, u8), LineFaul
 
 /// The number of the local state of this name.
 fn local_of(names: &[Name], name: &[u8]) -> Option<u8>
-    requires { length names.now ≤ 32 }
+    requires { length names.now ≤ MAX_LOCALS }
     ensures number { IfSome result (λ n. n ≡ number_in names.now name.now) }
     ensures some { IfSome result (λ n. Contains names.now name.now) }
     ensures none { IfNone result (Contains names.now name.now → ⊥) }

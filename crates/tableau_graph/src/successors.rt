@@ -1,4 +1,5 @@
 ghost use Rattle.std.specs.Prelude.{◌≡◌, ◌<◌, ℕ, true, IfOk, MatchOption};
+ghost use Rattle.ctl_form.specs.declared.limits.TheConstants.{MAX_MEMBERS};
 ghost use Rattle.ctl_form.specs.declared.part.Part.TheVariants.{Next};
 ghost use Rattle.ctl_form.specs.Members.{IsBelow};
 ghost use Rattle.closure_sets.specs.ClosureParts.{count};
@@ -62,7 +63,7 @@ fn next_node(
 }
 
 fn successor(node: &AndNode, side: Side, carried: Row, h: u32) -> OrNode
-    requires { h < 512 }
+    requires { h < MAX_MEMBERS }
     ensures node { result ≡ record { side = Some side; a = node.now.a; b = node.now.b; row = result.row } }
     ensures seed { set_of result.row.words ≡ add (set_of carried.words) h }
 {
@@ -88,7 +89,7 @@ fn carried(c: &Closure, row: &Row, side: Side) -> Row
 }
 
 fn carried_to(mut carried: Row, side: Side, part: Part, has: bool) -> Row
-    requires { IsBelow 512 part }
+    requires { IsBelow MAX_MEMBERS part }
     ensures { IsCarriedTo side part has (set_of carried.words) (set_of result.words) }
 {
     if !has {

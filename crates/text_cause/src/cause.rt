@@ -34,7 +34,7 @@ pub enum TextCause {
     /// The line declares one more than this limit.
     #[error("TooMany")]
     TooMany { limit: u32 },
-    /// At the end of a kind, its closure has more than 512 members.
+    /// At the end of a kind, its closure has more members than the limit.
     #[error("ClosureOver")]
     ClosureOver,
     /// An edge names one process twice.

@@ -1,4 +1,5 @@
 ghost use Rattle.std.specs.Prelude.{◌≡◌, ◌<◌, cond, false, length};
+ghost use Rattle.ctl_form.specs.declared.limits.TheConstants.{MAX_MEMBERS};
 ghost use Rattle.pair_structure.specs.declared.side.Side.TheVariants.{A, B};
 ghost use Rattle.closure_sets.specs.ClosureParts.{after, count};
 ghost use Rattle.ctl_form.specs.declared.part.Part.TheVariants.{Until};
@@ -30,7 +31,7 @@ fn next_time(ranks: &Ranks, side: Side, target: Target) -> u32
     requires target { IsTarget ranks.now.tableau.closure target }
     ensures same { result ≡ after ranks.now.tableau.closure side target.member }
     ensures member { result < count ranks.now.tableau.closure }
-    ensures small { result < 512 }
+    ensures small { result < MAX_MEMBERS }
 {
     let closure = tableau_of(ranks).closure();
     closure.tell_members();
@@ -67,7 +68,7 @@ fn falls_by(ranks: &Ranks, and: u64, target: Target, side: Side) -> bool
 
 pub(crate) fn has_member(ranks: &Ranks, and: u64, member: u32) -> bool
     requires and { and < length ranks.now.tableau.ands }
-    requires member { member < 512 }
+    requires member { member < MAX_MEMBERS }
     ensures { result ≡ (graph_of ranks.now.tableau).row and member }
 {
     tableau_of(ranks).ands()[and as usize].row.has(member)

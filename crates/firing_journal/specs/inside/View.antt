@@ -1,5 +1,6 @@
 -- What the reader's values say.
 use Rattle.std.specs.Prelude.{ℕ, ◌≤◌, ◌∷◌, ◌++◌, Option, Some, None, List, [], length}
+use Rattle.conjunctive_compose.specs.declared.limits.TheConstants.{MAX_CALLER}
 use Rattle.conjunctive_compose.specs.declared.wish.Wish.{Wish}
 use Rattle.conjunctive_compose.specs.System.{SystemParts}
 use Rattle.conjunctive_compose.specs.Firing.{Fits}
@@ -19,7 +20,7 @@ said Done = done_line
 
 -- the caller is one of 64, and the system has the process and its arc
 pub record IsKnown (sys : SystemParts) (caller process arc : ℕ) : Type 0 where
-  pub caller_in : caller ≤ 63
+  pub caller_in : caller ≤ MAX_CALLER
   pub fits : Fits sys process arc
 
 -- these entries with the next one

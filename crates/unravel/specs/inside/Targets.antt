@@ -1,12 +1,13 @@
 -- What pends of the strong untils that take turns.
 use Rattle.std.specs.Prelude.{ℕ, ◌≡◌, ◌<◌, ◌≤◌, ◌&&◌, Bool, true, false, not, Option, Some, None, List, length, max}
+use Rattle.ctl_form.specs.declared.limits.TheConstants.{MAX_MEMBERS}
 use Rattle.closure_sets.specs.Row.{Members}
 use Rattle.deletion_rules.specs.Targets.{target_in}
 use Rattle.deletion_rules.specs.declared.target.Target.{Target}
 
--- its members are among the 512 that a row can have
+-- its members are among those that a row can have
 abbrev pub IsSmall : Target → Type 0
-IsSmall t = (t.member < 512) × (t.g < 512)
+IsSmall t = (t.member < MAX_MEMBERS) × (t.g < MAX_MEMBERS)
 
 -- whether the row has the target and not its part g
 abbrev pub pends : Members → Target → Bool

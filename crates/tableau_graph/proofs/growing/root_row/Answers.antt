@@ -1,5 +1,6 @@
 use Rattle.std.proofs.Common.{ℕ, ◌<◌, ◌≤◌, length, List, refl, subst, sym, ◌∙◌, arith, slice_index_or}
 use Rattle.std.proofs.lemmas.List.{take_all}
+use Rattle.ctl_form.specs.declared.limits.TheConstants.{MAX_MEMBERS}
 use Rattle.closure_sets.specs.ClosureParts.{count}
 use Rattle.closure_sets.specs.Row.{set_of}
 use Rattle.tableau_graph.proofs.Roots.{IsSetOf, set_of_none, set_of_step}
@@ -7,7 +8,7 @@ use Rattle.tableau_graph.proofs.growing.root_row.Goals as goal
 
 pub add-requires : goal.add-requires
 add-requires c =
-    let few : count c.args.c.now ≤ 512 = c.tell_members.ensures.numbering.few in
+    let few : count c.args.c.now ≤ MAX_MEMBERS = c.tell_members.ensures.numbering.few in
     let same = c.roots-root-items.ensures.same in
     let i = c.loop-root.root-index in
     let within : i < length c.args.c.now.roots = subst (λ (l : List ℕ). i < length l) same c.loop-root-test.true in
