@@ -29,11 +29,11 @@ projection_made sys w e (wish ∷ wishes) lawful proper run lt =
     begins sys w e None later pair = (later, refl)
     begins sys w e (Some side) later pair = (record { side = side; state = pair.0 } ∷ later, (pair.0, pair.1, refl))
 
-pub joined : (sys : SystemParts) (w : WholeParts) (e s t : ℕ) (side : Option Side) (later moves : List PairMove) → HasPair sys w e t → PairStep (structure_at sys e) side s t → Begins sys w e side moves later → IsPairPath (structure_at sys e) t later → IsPairPath (structure_at sys e) s moves
-joined sys w e s t None later moves there step begins path =
+pub pair_path_begins : (sys : SystemParts) (w : WholeParts) (e s t : ℕ) (side : Option Side) (later moves : List PairMove) → HasPair sys w e t → PairStep (structure_at sys e) side s t → Begins sys w e side moves later → IsPairPath (structure_at sys e) t later → IsPairPath (structure_at sys e) s moves
+pair_path_begins sys w e s t None later moves there step begins path =
     let here : IsPairPath (structure_at sys e) s later = rw step path in
     subst (IsPairPath (structure_at sys e) s) (sym begins) here
-joined sys w e s t (Some side) later moves there step (u, pair, is) path =
+pair_path_begins sys w e s t (Some side) later moves there step (u, pair, is) path =
     let same : t ≡ u = one_pair sys w e t u there pair in
     let move : HasMove (structure_at sys e) side s u = subst (HasMove (structure_at sys e) side s) same step in
     let on : IsPairPath (structure_at sys e) u later = subst (λ (x : ℕ). IsPairPath (structure_at sys e) x later) same path in
@@ -45,7 +45,7 @@ projection_path sys w e s (wish ∷ wishes) moves lawful proper run lt pair (lat
     let proper' = fired_proper sys w wish lawful proper run.0 in
     let t = (proper'.pairs e lt).0 in
     let there = (proper'.pairs e lt).1 in
-    joined sys (fired sys w wish) e s t (side_on (edge_at sys e) wish.process) later moves there (fired_pairs sys w wish lawful proper run.0 e s t lt pair there) begins (projection_path sys (fired sys w wish) e t wishes later lawful proper' run.1 lt there is)
+    pair_path_begins sys (fired sys w wish) e s t (side_on (edge_at sys e) wish.process) later moves there (fired_pairs sys w wish lawful proper run.0 e s t lt pair there) begins (projection_path sys (fired sys w wish) e t wishes later lawful proper' run.1 lt there is)
 
 pub run_grows : (sys : SystemParts) (w : WholeParts) (run : List Wish) (wish : Wish) → IsRun sys w run → Moves sys (after sys w run) wish → IsRun sys w (run ++ wish ∷ [])
 run_grows sys w [] wish is moves = (moves, tt)

@@ -9,8 +9,8 @@ use Rattle.interconnection.specs.declared.parts.Edge.{Edge}
 use Rattle.conjunctive_compose.specs.System.{side_on}
 
 -- by cases
-pub sides : (edge : Edge) (k : ℕ) (P : Option Side → Type 0) → (edge.a ≡ k → P (Some A)) → (edge.a ≢ k → edge.b ≡ k → P (Some B)) → (edge.a ≢ k → edge.b ≢ k → P None) → P (side_on edge k)
-sides edge k P a b none = by_a (edge.a == k) refl
+pub side_on-cases : (edge : Edge) (k : ℕ) (P : Option Side → Type 0) → (edge.a ≡ k → P (Some A)) → (edge.a ≢ k → edge.b ≡ k → P (Some B)) → (edge.a ≢ k → edge.b ≢ k → P None) → P (side_on edge k)
+side_on-cases edge k P a b none = by_a (edge.a == k) refl
   where
     by_b : (x : Bool) → (edge.b == k) ≡ x → edge.a ≢ k → P (cond (edge.b == k) (Some B) None)
     by_b true e ne = rw e (b ne (eqb-true edge.b k e))
@@ -27,7 +27,7 @@ side_known edge k B differ e = rw (ne_eqb edge.a k (λ same. differ (same ∙ sy
 
 -- one side, or none
 pub by_side : (edge : Edge) (k : ℕ) (P : Option Side → Type 0) → ((side : Side) → end_of edge side ≡ k → P (Some side)) → (edge.a ≢ k → edge.b ≢ k → P None) → P (side_on edge k)
-by_side edge k P some none = sides edge k P (some A) (λ _ e. some B e) none
+by_side edge k P some none = side_on-cases edge k P (some A) (λ _ e. some B e) none
 
 pub across_differs : (edge : Edge) (k : ℕ) (side : Side) → edge.a ≢ edge.b → end_of edge side ≡ k → end_of edge (opposite side) ≢ k
 across_differs edge k A differ e f = differ (e ∙ sym f)

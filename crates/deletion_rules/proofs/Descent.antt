@@ -8,8 +8,8 @@ gap size p q (yes l) = q - p
 gap size p q (no n) = (q + size) - p
 
 -- how far one has to go from p to come to q
-pub distance : ℕ → ℕ → ℕ → ℕ
-distance size p q = gap size p q (dec_le p q)
+pub round_distance : ℕ → ℕ → ℕ → ℕ
+round_distance size p q = gap size p q (dec_le p q)
 
 -- a place that is neither p nor passed is behind p', or before it
 Ahead : ℕ → ℕ → ℕ → Type 0
@@ -37,8 +37,8 @@ gap_falls size p p' q (no n) (yes l') lt lq (inr e) = omega (arith, e.0, e.1, n,
 gap_falls size p p' q (no n) (no n') lt lq (inr e) = omega (arith, e.0, e.1, n, n')
 
 -- a move to p' that does not pass q comes nearer to it
-pub distance_falls : (size p p' q : ℕ) → p < size → q < size → (p ≡ q → ⊥) → (IsPassed p p' q → ⊥) → distance size p' q < distance size p q
-unfolding distance
+pub distance_falls : (size p p' q : ℕ) → p < size → q < size → (p ≡ q → ⊥) → (IsPassed p p' q → ⊥) → round_distance size p' q < round_distance size p q
+unfolding round_distance
 distance_falls size p p' q lt lq ne none = gap_falls size p p' q (dec_le p q) (dec_le p' q) lt lq (ahead p p' q ne none)
 
 -- t comes below s by the first number, or by the second where the first stays

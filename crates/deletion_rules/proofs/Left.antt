@@ -21,7 +21,7 @@ use Rattle.deletion_rules.specs.declared.target.Target.{Target}
 use Rattle.deletion_rules.proofs.Seen.{lives_on_in, lives_on_out}
 use Rattle.deletion_rules.proofs.Survive.{full_until}
 use Rattle.deletion_rules.proofs.Basics.{and_rest}
-use Rattle.deletion_rules.proofs.Onward.{onward}
+use Rattle.deletion_rules.proofs.Onward.{full_has_some_next}
 
 after_of : (c : ClosureParts) (g : Graph) (n u : ℕ) → Has (g.row n) (after c A u) → Has (g.row n) (after c B u) → (side : Side) → Has (g.row n) (after c side u)
 after_of c g n u x y A = x
@@ -74,7 +74,7 @@ module _ (c : ClosureParts) (k : IsClosureParts c) (g : Graph) (ok : IsGraph c g
   module _ (rank : ℕ → ℕ → Option ℕ) where
     -- some EXs h of the row leads on, and no rank is below 0
     none_below : (n : ℕ) → n < g.ands → ((i h : ℕ) (side : Side) → IsSomeNext c g n i side h → HasLower g lives rank u 0 (g.next_or n i)) → ⊥
-    none_below n small v = let w = onward c k (g.row n) (ok.full n small) in let z = v w.0 w.1 w.2 (record { node = small; member = w.3; part = w.4 }) in let lt = z.3.2 in omega (arith, lt)
+    none_below n small v = let w = full_has_some_next c k (g.row n) (ok.full n small) in let z = v w.0 w.1 w.2 (record { node = small; member = w.3; part = w.4 }) in let lt = z.3.2 in omega (arith, lt)
 
     abbrev With : Bool → ℕ → Type 0
     With all d = (n r : ℕ) → r < d → lives n ≡ true → Has (g.row n) u → rank n u ≡ Some r → Fulfilled c g lives (target_with all u f second) r n

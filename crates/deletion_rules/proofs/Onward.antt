@@ -9,5 +9,5 @@ use Rattle.closure_sets.specs.Label.{part_of}
 use Rattle.closure_sets.specs.Row.{Members}
 
 -- a full row has some EXs h
-pub onward : (c : ClosureParts) → IsClosureParts c → (row : Members) → IsFull c row → (i : ℕ) × (h : ℕ) × (side : Side) × Has row i × (part_of c i ≡ Next false side h)
-onward c k row full = let m = k.moves in elim full.onward [ inl a ↦ (some_move c A, m.0, A, a, (m.3 A).1) | inr b ↦ (some_move c B, m.0, B, b, (m.3 B).1) ]
+pub full_has_some_next : (c : ClosureParts) → IsClosureParts c → (row : Members) → IsFull c row → (i : ℕ) × (h : ℕ) × (side : Side) × Has row i × (part_of c i ≡ Next false side h)
+full_has_some_next c k row full = let m = k.moves in elim full.onward [ inl a ↦ (some_move c A, m.0, A, a, (m.3 A).1) | inr b ↦ (some_move c B, m.0, B, b, (m.3 B).1) ]

@@ -23,7 +23,7 @@ use Rattle.deletion_rules.specs.Unravel.{Plan, target, target_at, row_at, IsPend
 use Rattle.deletion_rules.specs.declared.position.Position.{Position}
 use Rattle.deletion_rules.proofs.Pending.{decided_has, pending_case}
 use Rattle.deletion_rules.proofs.Plain.{IsPlainPart, right_part, past_true}
-use Rattle.deletion_rules.proofs.Descent.{distance, distance_falls, Below, descend}
+use Rattle.deletion_rules.proofs.Descent.{round_distance, distance_falls, Below, descend}
 
 module _ (c : ClosureParts) (k : IsClosureParts c) (g : Graph) (ok : IsGraph c g) (m : Structure) (plan : Plan) (at : ℕ → Position) (un : IsUnravelled c g m plan at) where
   full : (s : ℕ) → s < length m.states → IsFull c (row_at g (at s))
@@ -55,13 +55,13 @@ module _ (c : ClosureParts) (k : IsClosureParts c) (g : Graph) (ok : IsGraph c g
 
   -- the pair of distance and rank
   abbrev far : ℕ → ℕ → ℕ
-  far q s = distance (length plan.targets) ((at s).place) q
+  far q s = round_distance (length plan.targets) ((at s).place) q
 
   abbrev rank_of : ℕ → ℕ
   rank_of s = plan.rank (target plan (at s)) ((at s).node)
 
   same_place : (q s t : ℕ) → (at t).place ≡ (at s).place → plan.rank (target plan (at s)) ((at t).node) < plan.rank (target plan (at s)) ((at s).node) → Below (far q) rank_of t s
-  same_place q s t e falls = inr (ap (λ p. distance (length plan.targets) p q) e, subst (λ p. plan.rank (target_at plan p) ((at t).node) < rank_of s) (sym e) falls)
+  same_place q s t e falls = inr (ap (λ p. round_distance (length plan.targets) p q) e, subst (λ p. plan.rank (target_at plan p) ((at t).node) < rank_of s) (sym e) falls)
 
   -- a place that moves on comes nearer to an until that pends
   moved_on : (q s t : ℕ) (all : Bool) → s < length m.states → q < length plan.targets → ((at s).place ≡ q → ⊥) → IsPending c (row_at g (at t)) all (target_at plan q) → MovesOn c g plan (at s) (at t) → Below (far q) rank_of t s

@@ -29,7 +29,7 @@ use Rattle.deletion_rules.proofs.Basics.{no_some, some_same}
 use Rattle.deletion_rules.proofs.Seen.{all_out, successor_hit, successor_there}
 use Rattle.deletion_rules.proofs.Standing.{flag_within, no_yes}
 use Rattle.deletion_rules.proofs.Within.{next_below}
-use Rattle.deletion_rules.proofs.Onward.{onward}
+use Rattle.deletion_rules.proofs.Onward.{full_has_some_next}
 
 open_none : (marks : List (Option ℕ)) → open_count (marks ++ None ∷ []) ≡ open_count marks + 1
 open_none marks = sum_by-append (λ (mark : Option ℕ). cond (is_none mark) 1 0) marks (None ∷ [])
@@ -89,12 +89,12 @@ module _ (t : TableauParts) (k : IsTableau t) (lives : List Bool) (long : length
   -- the nodes where the until is met
   module _ (ok : IsGraph t.closure (graph_of t)) (marks : List (Option ℕ)) (reached : List Bool) (nodes : List ℕ) (h : AreFirst t lives target (length t.ands) marks nodes) (none : (o : ℕ) → flag_of reached o ≡ true → ⊥) where
     not_led : (all : Bool) (u n : ℕ) → n < length t.ands → IsLed t reached all u n → ⊥
-    not_led true u n small led = let w = onward t.closure k.rules.closure (g.row n) (ok.full n small) in none (g.next_or n w.0) (led w.0 w.1 w.2 (record { node = small; member = w.3; part = w.4 }))
+    not_led true u n small led = let w = full_has_some_next t.closure k.rules.closure (g.row n) (ok.full n small) in none (g.next_or n w.0) (led w.0 w.1 w.2 (record { node = small; member = w.3; part = w.4 }))
     not_led false u n small led = none (g.next_or n (after t.closure led.0 u)) led.2
 
     -- nothing is below 0
     not_lower : (all : Bool) (u n : ℕ) → n < length t.ands → GoesOnBy t.closure g all u n (HasLower g (lives_of lives) (rank_of marks) u 0) → ⊥
-    not_lower true u n small v = let w = onward t.closure k.rules.closure (g.row n) (ok.full n small) in let z = v w.0 w.1 w.2 (record { node = small; member = w.3; part = w.4 }) in (let lt = z.3.2 in omega (arith, lt))
+    not_lower true u n small v = let w = full_has_some_next t.closure k.rules.closure (g.row n) (ok.full n small) in let z = v w.0 w.1 w.2 (record { node = small; member = w.3; part = w.4 }) in (let lt = z.3.2 in omega (arith, lt))
     not_lower false u n small v = let lt = v.2.3.2 in omega (arith, lt)
 
     met_at : (n : ℕ) → IsSeen t.closure (graph_of t) (lives_of lives) marks target 0 n → IsMetAt t lives target n

@@ -9,14 +9,14 @@ use Rattle.tableau_graph.specs.Graph.{graph_of}
 use Rattle.tableau_graph.specs.Rules.{IsTableau}
 use Rattle.tableau_graph.specs.TableauParts.{TableauParts, and_at, edges_at, row_of}
 
-pub contained : (xs : List ℕ) (i : ℕ) → i < length xs → Contains xs (slice_index_or xs i 0)
-contained xs i lt = (i, lt, get_or_default_zero xs i (slice_index_or xs i 0) lt)
+pub Contains-at : (xs : List ℕ) (i : ℕ) → i < length xs → Contains xs (slice_index_or xs i 0)
+Contains-at xs i lt = (i, lt, get_or_default_zero xs i (slice_index_or xs i 0) lt)
 
 pub child_below : (t : TableauParts) → IsTableau t → (o i m : ℕ) (items : List ℕ) → o < length t.ors → items ≡ edges_at t.children o → i < length items → m ≡ length t.ands → slice_index_or items i 0 < m
 child_below t k o i m items small e lt f =
     let lt' : i < length (edges_at t.children o) = subst (λ (l : List ℕ). i < length l) e lt in
     let all = k.all_ors in
-    let within : slice_index_or (edges_at t.children o) i 0 < length t.ands = (k.rules.children o (omega (arith, small, all))).within (slice_index_or (edges_at t.children o) i 0) (contained (edges_at t.children o) i lt') in
+    let within : slice_index_or (edges_at t.children o) i 0 < length t.ands = (k.rules.children o (omega (arith, small, all))).within (slice_index_or (edges_at t.children o) i 0) (Contains-at (edges_at t.children o) i lt') in
     let same : slice_index_or items i 0 ≡ slice_index_or (edges_at t.children o) i 0 = ap (λ (l : List ℕ). slice_index_or l i 0) e in
     omega (arith, within, same, f)
 
@@ -24,7 +24,7 @@ pub successor_below : (t : TableauParts) → IsTableau t → (n i : ℕ) (items 
 successor_below t k n i items small e lt =
     let lt' : i < length (edges_at t.successors n) = subst (λ (l : List ℕ). i < length l) e lt in
     let all = k.all_ands in
-    let within : slice_index_or (edges_at t.successors n) i 0 < length t.ors = (k.rules.successors n (omega (arith, small, all))).within (slice_index_or (edges_at t.successors n) i 0) (contained (edges_at t.successors n) i lt') in
+    let within : slice_index_or (edges_at t.successors n) i 0 < length t.ors = (k.rules.successors n (omega (arith, small, all))).within (slice_index_or (edges_at t.successors n) i 0) (Contains-at (edges_at t.successors n) i lt') in
     let same : slice_index_or items i 0 ≡ slice_index_or (edges_at t.successors n) i 0 = ap (λ (l : List ℕ). slice_index_or l i 0) e in
     omega (arith, within, same)
 

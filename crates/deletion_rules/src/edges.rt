@@ -44,12 +44,7 @@ fn parents_of(alloc: Global, t: &Tableau) -> Result<Lists<u64>, Memory>
 }
 
 /// Puts the OR node down as a parent of each of its children.
-fn add_parent(
-    alloc: Global,
-    t: &Tableau,
-    or: u64,
-    parents: &mut Lists<u64>,
-) -> Result<(), Memory>
+fn add_parent(alloc: Global, t: &Tableau, or: u64, parents: &mut Lists<u64>) -> Result<(), Memory>
     requires or { or < length t.now.ors }
     requires before { AreParents t.now or parents.old }
     ensures { OnOk result (AreParents t.now (or + 1) parents.new) }
@@ -73,12 +68,7 @@ fn arrows_of(alloc: Global, t: &Tableau) -> Result<Lists<Arrow>, Memory>
 }
 
 /// Puts each member EXs h of the node's row down at the OR node that it leads to. One pass over the members.
-fn add_arrows(
-    alloc: Global,
-    t: &Tableau,
-    and: u64,
-    arrows: &mut Lists<Arrow>,
-) -> Result<(), Memory>
+fn add_arrows(alloc: Global, t: &Tableau, and: u64, arrows: &mut Lists<Arrow>) -> Result<(), Memory>
     requires and { and < length t.now.ands }
     requires before { AreArrows t.now and arrows.old }
     ensures { OnOk result (AreArrows t.now (and + 1) arrows.new) }

@@ -9,7 +9,7 @@ ghost use Rattle.deletion_rules.specs.declared.edges.Arrow.{Arrow};
 use crate::cursors::is_through;
 use crate::edges::Arrow;
 use crate::target::Target;
-use pair_structure::{Memory, Side};
+use pair_structure::{Lists, Memory, Side};
 use tableau_graph::Tableau;
 
 /// What is marked: a target, at the living nodes of a tableau.

@@ -62,21 +62,21 @@ pub nothing_said : (sys : SystemParts) (entries : List Entry) (line : Line) → 
 nothing_said sys entries line strict none = bad_line_lowest (NotStrict line) (LacksHead (among_entries entries) line) (MaySay (among_entries entries) line) (Blocks sys) (λ bad. bad strict) (has_head entries line) (λ said may. none said may.says)
 
 -- the line says what may not stand there
-pub misplaced : (sys : SystemParts) (entries : List Entry) (line : Line) (said : Said) → IsStrict line.bytes → Says line said → (MayStand (among_entries entries) said → ⊥) → IsLowest (Stands sys (among_entries entries) line) BadLine
-misplaced sys entries line said strict says not =
+pub misplaced_is_bad_line : (sys : SystemParts) (entries : List Entry) (line : Line) (said : Said) → IsStrict line.bytes → Says line said → (MayStand (among_entries entries) said → ⊥) → IsLowest (Stands sys (among_entries entries) line) BadLine
+misplaced_is_bad_line sys entries line said strict says not =
     bad_line_lowest (NotStrict line) (LacksHead (among_entries entries) line) (MaySay (among_entries entries) line) (Blocks sys) (λ bad. bad strict) (has_head entries line) (λ other may. not (subst (MayStand (among_entries entries)) (says_once line other said may.says says) may.may))
 
 -- the line says an entry that may stand there, but not for this system
-pub unknown : (sys : SystemParts) (entries : List Entry) (line : Line) (entry : Entry) → IsStrict line.bytes → Says line (entry_line entry) → entry.number ≡ length entries → (EntryFits sys entry → ⊥) → IsLowest (Stands sys (among_entries entries) line) UnknownName
-unknown sys entries line entry strict says place not =
+pub unknown_is_lowest : (sys : SystemParts) (entries : List Entry) (line : Line) (entry : Entry) → IsStrict line.bytes → Says line (entry_line entry) → entry.number ≡ length entries → (EntryFits sys entry → ⊥) → IsLowest (Stands sys (among_entries entries) line) UnknownName
+unknown_is_lowest sys entries line entry strict says place not =
     let may : MaySay (among_entries entries) line (entry_line entry) = record { says = says; may = place } in
     blocked_lowest (NotStrict line) (LacksHead (among_entries entries) line) (MaySay (among_entries entries) line) (Blocks sys) (says_one (among_entries entries) line) (entry_line entry) may (λ bad. bad strict) (has_head entries line) UnknownName (row_lowest UnknownName (IsUnknown sys (entry_line entry)) not)
 
-pub taken : (sys : SystemParts) (entries : List Entry) (line : Line) (said : Said) → IsStrict line.bytes → Says line said → MayStand (among_entries entries) said → (IsUnknown sys said → ⊥) → Takes sys (among_entries entries) line (after (among_entries entries) said)
-taken sys entries line said strict says stands known = read_taken sys (among_entries entries) line said strict (has_head entries line) (record { says = says; may = stands }) known
+pub known_is_taken : (sys : SystemParts) (entries : List Entry) (line : Line) (said : Said) → IsStrict line.bytes → Says line said → MayStand (among_entries entries) said → (IsUnknown sys said → ⊥) → Takes sys (among_entries entries) line (after (among_entries entries) said)
+known_is_taken sys entries line said strict says stands known = read_taken sys (among_entries entries) line said strict (has_head entries line) (record { says = says; may = stands }) known
 
 pub done_taken : (sys : SystemParts) (entries : List Entry) (line : Line) → IsStrict line.bytes → Says line done_line → Takes sys (among_entries entries) line (place_after entries None)
-done_taken sys entries line strict says = taken sys entries line done_line strict says tt (λ none. none)
+done_taken sys entries line strict says = known_is_taken sys entries line done_line strict says tt (λ none. none)
 
 -- an entry of numbers that the system knows
 pub entry_fits : (sys : SystemParts) (number caller process arc pick : ℕ) → IsKnown sys caller process arc → EntryFits sys (record { number = number; caller = caller; wish = wish_of_numbers process arc pick })
@@ -90,4 +90,4 @@ pub entry_taken : (sys : SystemParts) (entries : List Entry) (line : Line) (numb
 entry_taken sys entries line number caller process arc pick next strict says place c w known =
     let e : Entry = record { number = number; caller = caller; wish = wish_of_numbers process arc pick } in
     let there : ◌≡◌ {A = Entry} e (record { number = length entries; caller = next.0; wish = next.1 }) = cc in
-    subst (λ (x : Entry). Takes sys (among_entries entries) line (among_entries (entries ++ x ∷ []))) there (taken sys entries line (entry_line e) strict says place (λ not. not (entry_fits sys number caller process arc pick known)))
+    subst (λ (x : Entry). Takes sys (among_entries entries) line (among_entries (entries ++ x ∷ []))) there (known_is_taken sys entries line (entry_line e) strict says place (λ not. not (entry_fits sys number caller process arc pick known)))

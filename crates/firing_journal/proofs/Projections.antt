@@ -23,10 +23,10 @@ moves_at sys w (x ∷ run) zero d lt is = is.0
 moves_at sys w (x ∷ run) (suc i) d lt is = moves_at sys (fired sys w x) run i d (omega arith) is.1
 
 -- a wish that moves is answered so
-pub moved : (sys : SystemParts) (w v : WholeParts) (wish : Wish) (answer : StepAnswer) → Moves sys w wish → IsAnswer sys w wish answer v → v ≡ fired sys w wish
-moved sys w v wish Moved moves is = is.1
-moved sys w v wish (Away local) moves is = absurd (is.1 (moves.leaves ∙ sym is.0))
-moved sys w v wish (Blocked j) moves (leaves, ((e, side, lt, on, at, shut), lowest), same) = absurd (shut (moves.permit e side lt on))
+pub moves_is_fired : (sys : SystemParts) (w v : WholeParts) (wish : Wish) (answer : StepAnswer) → Moves sys w wish → IsAnswer sys w wish answer v → v ≡ fired sys w wish
+moves_is_fired sys w v wish Moved moves is = is.1
+moves_is_fired sys w v wish (Away local) moves is = absurd (is.1 (moves.leaves ∙ sym is.0))
+moves_is_fired sys w v wish (Blocked j) moves (leaves, ((e, side, lt, on, at, shut), lowest), same) = absurd (shut (moves.permit e side lt on))
 
 begins_more : (sys : SystemParts) (w : WholeParts) (e : ℕ) (side : Option Side) (moves later more : List PairMove) → Begins sys w e side moves later → Begins sys w e side (moves ++ more) (later ++ more)
 begins_more sys w e None moves later more is = ap (λ (l : List PairMove). l ++ more) is
@@ -68,7 +68,7 @@ pub entry_projected : (sys : SystemParts) (entries : List Entry) (edge i : ℕ) 
     → IsAnswer sys w (get_or entries i e).wish answer v → IsProper sys v → Begins sys v edge (side_on (edge_at sys edge) (get_or entries i e).wish.process) more [] → all ≡ moves ++ more → ProjectedUpTo sys (wishes_of entries) edge (i + 1) v all
 entry_projected sys entries edge i w v answer moves more all e lt run so is proper begins all_is =
     let wish = wish_there entries i e.wish e lt in
-    let fired_is : v ≡ fired sys w (get_or entries i e).wish = moved sys w v (get_or entries i e).wish answer (moves_there sys entries i w e lt run so.whole) is in
+    let fired_is : v ≡ fired sys w (get_or entries i e).wish = moves_is_fired sys w v (get_or entries i e).wish answer (moves_there sys entries i w e lt run so.whole) is in
     let next = projected_more sys (wishes_of entries) edge i w v moves more e.wish (omega (arith, lt, length-wishes entries)) so (fired_is ∙ ap (λ (x : Wish). fired sys w x) (sym wish)) proper (subst (λ (x : Wish). Begins sys v edge (side_on (edge_at sys edge) x.process) more []) (sym wish) begins) in
     subst (λ (l : List PairMove). ProjectedUpTo sys (wishes_of entries) edge (i + 1) v l) (sym all_is) next
 

@@ -18,7 +18,7 @@ use Rattle.firing_journal.specs.Said.{Said, HasNumbers, HasSmallNumbers, Says, h
 use Rattle.firing_journal.specs.Place.{MayStand, among_entries, after, after_done, before_head}
 use Rattle.firing_journal.specs.Cause.{IsUnknown, Takes}
 use Rattle.firing_journal.specs.Text.{journals}
-use Rattle.firing_journal.proofs.Judged.{head_taken, taken}
+use Rattle.firing_journal.proofs.Judged.{head_taken, known_is_taken}
 use Rattle.firing_journal.proofs.Numbered.{number_at}
 use Rattle.firing_journal.proofs.Texts.{done_stands}
 
@@ -56,7 +56,7 @@ unfolding written
 strict_written said small = strict_words (words_for said) (words_are said small)
 
 takes_written : (sys : SystemParts) (before : List Entry) (said : Said) → HasNumbers said → MayStand (among_entries before) said → (IsUnknown sys said → ⊥) → Takes sys (among_entries before) (written said) (after (among_entries before) said)
-takes_written sys before said small may known = taken sys before (written said) said (strict_written said small) (says_written said small) may known
+takes_written sys before said small may known = known_is_taken sys before (written said) said (strict_written said small) (says_written said small) may known
 
 -- numbered from n
 abbrev IsNumberedFrom : ℕ → List Entry → Type 0

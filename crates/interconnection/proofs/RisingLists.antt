@@ -106,14 +106,14 @@ none_above k (x ∷ xs) above =
     count_cons k x xs ∙ omega (arith, ap {B = ℕ} (λ b. cond b 1 0) other, rest)
 
 -- in numbers that rise, one that is there stands once
-pub once : (k : ℕ) (xs : List ℕ) → AllPairs (λ x y. x < y) xs → Contains xs k → count_by (λ j. j == k) xs ≡ 1
-once k [] rising (i, lt, is) = absurd (omega (arith, lt))
-once k (x ∷ xs) rising (zero, lt, is) =
+pub rising_counts_once : (k : ℕ) (xs : List ℕ) → AllPairs (λ x y. x < y) xs → Contains xs k → count_by (λ j. j == k) xs ≡ 1
+rising_counts_once k [] rising (i, lt, is) = absurd (omega (arith, lt))
+rising_counts_once k (x ∷ xs) rising (zero, lt, is) =
     let same : (x == k) ≡ true = eq-eqb x k is in
     let rest : count_by (λ j. j == k) xs ≡ 0 = none_above k xs (λ i d within. subst (λ k. k < get_or xs i d) is (rising 0 (suc i) d (omega arith) (omega (arith, within)))) in
     count_cons k x xs ∙ omega (arith, ap {B = ℕ} (λ b. cond b 1 0) same, rest)
-once k (x ∷ xs) rising (suc i, lt, is) =
+rising_counts_once k (x ∷ xs) rising (suc i, lt, is) =
     let lower : x < get_or xs i k = rising 0 (suc i) k (omega arith) lt in
     let other : (x == k) ≡ false = ne_eqb x k (omega (arith, is)) in
-    let rest : count_by (λ j. j == k) xs ≡ 1 = once k xs (λ p q d before within. rising (suc p) (suc q) d (omega arith) (omega (arith, within))) (i, omega (arith, lt), is) in
+    let rest : count_by (λ j. j == k) xs ≡ 1 = rising_counts_once k xs (λ p q d before within. rising (suc p) (suc q) d (omega arith) (omega (arith, within))) (i, omega (arith, lt), is) in
     count_cons k x xs ∙ omega (arith, ap {B = ℕ} (λ b. cond b 1 0) other, rest)

@@ -129,8 +129,8 @@ decides_replay words shelf sink code planned files spec sol journal v structures
     decides_journal words shelf sink (replay spec sol journal) files journal v structures sys entries status text free system journal_told solves (unhindered_both (AnswersJournal shelf journal) words shelf sink (replay spec sol journal) files spec sol v structures status text free told sol_told h))
     planned
 
-pub decides : (words : List (List ℕ)) (shelf : ShelfSeen) (sink : SinkSeen) (code : ℕ) → IsPlanned words shelf sink code → Decides words shelf sink code
-decides words shelf sink code planned = record {
+pub Decides-from_planned : (words : List (List ℕ)) (shelf : ShelfSeen) (sink : SinkSeen) (code : ℕ) → IsPlanned words shelf sink code → Decides words shelf sink code
+Decides-from_planned words shelf sink code planned = record {
   decides_synth = decides_synth words shelf sink code planned;
   decides_prove = decides_prove words shelf sink code planned;
   decides_skel = decides_skel words shelf sink code planned;

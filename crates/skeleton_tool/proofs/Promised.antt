@@ -132,8 +132,8 @@ replay_tells words shelf sink code planned files spec sol journal v structures s
       (own.0, fails_so v structures sys entries own.0 (replays_own shelf files spec sol journal v structures sys entries Fails own.0 called.told tt spec_is sol_is system journal_is own.1), own.2)),
 )
 
-pub promises : (words : List (List ℕ)) (shelf : ShelfSeen) (sink : SinkSeen) (code : ℕ) → IsPlanned words shelf sink code → Promises words shelf sink code
-promises words shelf sink code planned = record {
+pub Promises-from_planned : (words : List (List ℕ)) (shelf : ShelfSeen) (sink : SinkSeen) (code : ℕ) → IsPlanned words shelf sink code → Promises words shelf sink code
+Promises-from_planned words shelf sink code planned = record {
   synth_solves = synth_solves words shelf sink code planned;
   synth_finds_none = synth_finds_none words shelf sink code planned;
   prove_judges = prove_judges words shelf sink code planned;

@@ -30,10 +30,10 @@ end_within sys e A system lt = (edge_lawful sys e system lt).a
 end_within sys e B system lt = (edge_lawful sys e system lt).b
 
 -- a wish that does not move is refused by a process of the system
-pub refused : (sys : SystemParts) (run : List Wish) (at : ℕ) (why : StepAnswer) → IsSystem sys → IsFirstStuck sys run at why → IsRefusal sys why
-refused sys run at Moved system stuck = stuck.stuck stuck.answered.0
-refused sys run at (Away local) system stuck = tt
-refused sys run at (Blocked j) system stuck =
+pub stuck_is_refusal : (sys : SystemParts) (run : List Wish) (at : ℕ) (why : StepAnswer) → IsSystem sys → IsFirstStuck sys run at why → IsRefusal sys why
+stuck_is_refusal sys run at Moved system stuck = stuck.stuck stuck.answered.0
+stuck_is_refusal sys run at (Away local) system stuck = tt
+stuck_is_refusal sys run at (Blocked j) system stuck =
     let blocks = stuck.answered.1.0 in
     let within = end_within sys blocks.0 (opposite blocks.1) system blocks.2 in
     subst (λ k. k < process_count sys) blocks.4 within

@@ -41,8 +41,8 @@ pub record ArePaired (kinds : List PairSpec) (structures : List Structure) (n : 
   pub kind_there : kind ≡ kind_at kinds n
   pub structure_there : m ≡ structure_at structures n
 
-pub paired : (roles : List RoleParts) (kinds : List PairSpec) (structures : List Structure) (n : ℕ) (kind : PairSpec) (m : Structure) → AreOver roles kinds structures → n < length kinds → kind ≡ get_or kinds n kind → m ≡ get_or structures n m → ArePaired kinds structures n kind m
-paired roles kinds structures n kind m over lt k_is m_is =
+pub ArePaired-at : (roles : List RoleParts) (kinds : List PairSpec) (structures : List Structure) (n : ℕ) (kind : PairSpec) (m : Structure) → AreOver roles kinds structures → n < length kinds → kind ≡ get_or kinds n kind → m ≡ get_or structures n m → ArePaired kinds structures n kind m
+ArePaired-at roles kinds structures n kind m over lt k_is m_is =
     let count = over_count roles kinds structures over in
     record { within = lt; kind_there = kind_is kinds n kind lt k_is; structure_there = structure_is structures n m (omega arith) m_is }
 
