@@ -154,18 +154,12 @@ module _ (t : TableauParts) (k : IsTableau t) (lives : List Bool) (long : length
 
     -- one more round
     module _ (parents : List (List ℕ)) (arrows : List (List Arrow)) (edges : AreEdges t parents arrows) where
-      pub node_below : (n : ℕ) → Contains nodes n → n < length parents
-      node_below n c = let lt = marked_within marks n (s.listed n c) in let a = s.sound.long in let b = edges.up.long in omega (arith, lt, a, b)
-
       pub parent_below : (n o : ℕ) → Contains (list_at parents n) o → o < length reached
       parent_below n o c = let lt = (edges.up.each n o c).0 in let e = s.long in omega (arith, lt, e)
 
       module _ (now : List Bool) (ors : List ℕ) (r : Reaching (IsParentOf parents nodes) reached [] now ors) where
         is_reached : (o : ℕ) → Contains ors o → flag_of now o ≡ true
         is_reached o c = elim (r.fresh o c) [ inl none ↦ absurd (no_item o none) | inr e ↦ e ]
-
-        pub or_below : (o : ℕ) → Contains ors o → o < length arrows
-        or_below o c = let lt = flag_within now o (is_reached o c) in let a = r.long in let b = s.long in let d = edges.back.long in omega (arith, lt, a, b, d)
 
         pub arrow_reaches : (o : ℕ) (arrow : Arrow) → Contains ors o → Contains (list_at arrows o) arrow → IsReaching t now arrow
         arrow_reaches o arrow c there = (o, edges.back.each o arrow there, is_reached o c)

@@ -12,12 +12,12 @@ pub loop-member-preserved : goal.loop-member-preserved
 loop-member-preserved c = elim c.if-is_next.branch [
   | then-is_next+in_ok-push w ↦ (
       let found : is_next c.args.t.now c.args.and c.loop-member.member ≡ true = sym c.is_next.ensures ∙ w.if-is_next.true in
-      let at = arrow_at c.args.t.now c.args.and c.loop-member.member c.loop-member.place w.successor_at.result w.successor_at.ensures c.loop-member.invariant.place in
-      let small : w.successor_at.result < length c.loop-member.arrows = (let lt = arrow_below c.args.t.now c.tell_rules.ensures c.args.and c.loop-member.member w.successor_at.result c.requires.and found at in let long = c.loop-member.invariant.adds.long in omega (arith, lt, long)) in
+      let at = arrow_at c.args.t.now c.args.and c.loop-member.member c.loop-member.place w.successor_at-or.result w.successor_at-or.ensures c.loop-member.invariant.place in
+      let small : w.successor_at-or.result < length c.loop-member.arrows = (let lt = arrow_below c.args.t.now c.tell_rules.ensures c.args.and c.loop-member.member w.successor_at-or.result c.requires.and found at in let long = c.loop-member.invariant.adds.long in omega (arith, lt, long)) in
       record {
         place = place_next c.args.t.now c.args.and c.loop-member.member c.loop-member.place c.if-is_next.place c.loop-member.invariant.place found w.place-is;
         few = (let few = c.loop-member.invariant.few in let is = w.place-is in omega (arith, few, is));
-        adds = subst (AddsArrows c.args.t.now c.args.and (c.loop-member.member + 1)) (sym w.arrows-is) (arrow_step c.args.t.now c.args.and c.loop-member.member w.successor_at.result c.loop-member.arrows w.push.new.self c.requires.and found at c.loop-member.invariant.adds (record { size = w.in_ok-push.ensures.size small; here = w.in_ok-push.ensures.here; elsewhere = w.in_ok-push.ensures.elsewhere }));
+        adds = subst (AddsArrows c.args.t.now c.args.and (c.loop-member.member + 1)) (sym w.arrows-is) (arrow_step c.args.t.now c.args.and c.loop-member.member w.successor_at-or.result c.loop-member.arrows w.push.new.self c.requires.and found at c.loop-member.invariant.adds (record { size = w.in_ok-push.ensures.size small; here = w.in_ok-push.ensures.here; elsewhere = w.in_ok-push.ensures.elsewhere }));
       })
   | else-is_next w ↦ (
       let passed : is_next c.args.t.now c.args.and c.loop-member.member ≡ false = sym c.is_next.ensures ∙ w.if-is_next.false in

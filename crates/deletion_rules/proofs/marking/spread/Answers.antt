@@ -1,11 +1,11 @@
 use Rattle.std.proofs.Common.{◌≡◌, ◌≤◌, ◌+◌, ℕ, List, [], length, subst, arith}
 use Rattle.deletion_rules.specs.Marks.{open_count}
 use Rattle.deletion_rules.specs.inside.Spread.{IsArrowTo, IsParentOf, Reaching, Visits}
-use Rattle.deletion_rules.proofs.SpreadLaws.{arrow_reaches, cursors_stay, node_below, or_below, parent_below, spread_done, spread_next}
+use Rattle.deletion_rules.proofs.SpreadLaws.{arrow_reaches, cursors_stay, parent_below, spread_done, spread_next}
 use Rattle.deletion_rules.proofs.marking.spread.Goals as goal
 
 pub reach-requires : goal.reach-requires
-reach-requires c = parent_below c.args.m.now.tableau.now c.tell_rules.ensures c.args.m.now.lives.now c.requires.lives c.args.m.now.target c.requires.target (c.loop-alloc.round + 1) c.loop-alloc.front.marks.items c.loop-alloc.reached c.loop-alloc.front.nodes.items c.loop-alloc.invariant.spread c.args.edges.now.parents c.args.edges.now.arrows c.requires.edges
+reach-requires c = record { parents = parent_below c.args.m.now.tableau.now c.tell_rules.ensures c.args.m.now.lives.now c.requires.lives c.args.m.now.target c.requires.target (c.loop-alloc.round + 1) c.loop-alloc.front.marks.items c.loop-alloc.reached c.loop-alloc.front.nodes.items c.loop-alloc.invariant.spread c.args.edges.now.parents c.args.edges.now.arrows c.requires.edges }
 
 pub visit_each-requires-clause-arrows : goal.visit_each-requires-clause-arrows
 visit_each-requires-clause-arrows c =
