@@ -1,5 +1,5 @@
 -- The first of several faults, found kind by kind and of one kind by rising place.
-use Rattle.std.proofs.Common.{ℕ, ◌≡◌, ◌<◌, inl, inr}
+use Rattle.std.proofs.Common.{ℕ, ◌≡◌, ◌<◌, inl, inr, arith}
 use Rattle.std.proofs.lemmas.Bool.{cases_order, cases_lt}
 use Rattle.pair_structure.specs.First.{ComesFirst, IsFirst}
 
@@ -20,3 +20,13 @@ IsFirst-from_order {Fault} kind_of place_of Stands fault stands no_kind no_place
           | inl same ↦ level other same also
           | inr apart ↦ elim apart [ inl earlier ↦ inl earlier | inr later ↦ absurd (no_kind other later also) ]
         ]
+
+-- of two that are the first, each is of the other's kind and at its place
+pub IsFirst-same : {Fault : Type 0} (kind_of place_of : Fault → ℕ) (Stands : Fault → Type 0) (x y : Fault) → IsFirst kind_of place_of Stands x → IsFirst kind_of place_of Stands y → (kind_of x ≡ kind_of y) × (place_of x ≡ place_of y)
+IsFirst-same {Fault} kind_of place_of Stands x y p q = level (p.first y q.stands) (q.first x p.stands)
+  where
+    level : ComesFirst (kind_of x) (place_of x) (kind_of y) (place_of y) → ComesFirst (kind_of y) (place_of y) (kind_of x) (place_of x) → (kind_of x ≡ kind_of y) × (place_of x ≡ place_of y)
+    level (inl a) (inl b) = absurd (omega (arith, a, b))
+    level (inl a) (inr b) = absurd (omega (arith, a, b.0))
+    level (inr a) (inl b) = absurd (omega (arith, a.0, b))
+    level (inr a) (inr b) = (a.0, omega (arith, a.1, b.1))

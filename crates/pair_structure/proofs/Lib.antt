@@ -4,6 +4,7 @@ pub mod FirstLaws
 pub mod ListOfLists
 pub mod Middle
 pub mod MoveOrder
+pub mod OneStructureFault
 pub mod Ordinals
 pub mod Rising
 pub mod RoleFaultLaws

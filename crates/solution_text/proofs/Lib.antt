@@ -1,5 +1,4 @@
 pub mod Blocked
-pub mod FirstFault
 pub mod ItemLaws
 pub mod Judged
 pub mod KindTexts

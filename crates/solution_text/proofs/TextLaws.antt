@@ -14,7 +14,7 @@ use Rattle.solution_text.specs.Item.{Said, head_line, kind_line, state_line, mov
 use Rattle.solution_text.specs.State.{State, Group, before_head, among_kinds, in_kind, after_done, after}
 use Rattle.solution_text.specs.Cause.{Blocks, EndBlocks, KindBlocks, LabelBlocks, LacksHead, MaySay, PairBlocks, StateBlocks, Stands, Takes}
 use Rattle.solution_text.specs.Text.{EndStands, solutions}
-use Rattle.solution_text.proofs.FirstFault.{first_fault_once}
+use Rattle.pair_structure.proofs.OneStructureFault.{first_structure_fault_once}
 use Rattle.solution_text.proofs.ItemLaws.{says_once}
 use Rattle.solution_text.proofs.Judged.{says_one}
 
@@ -47,7 +47,7 @@ from_end among_kinds cause h = absurd h
 from_end after_done cause h = absurd h
 
 one_pair : (a b : RoleParts) (states : List (ℕ × ℕ)) (moves : List Move) → OneEach (PairBlocks a b states moves)
-one_pair a b states moves c d same (x, c_is, x_first) (y, d_is, y_first) = c_is ∙ ap NotAPair (first_fault_once a b states moves x y x_first y_first) ∙ sym d_is
+one_pair a b states moves c d same (x, c_is, x_first) (y, d_is, y_first) = c_is ∙ ap NotAPair (first_structure_fault_once a b states moves x y x_first y_first) ∙ sym d_is
 
 one_end : (g : Group) → OneEach (EndBlocks g)
 one_end (in_kind a b states moves) c d same p q = one_pair a b states moves c d same p q
