@@ -8,7 +8,7 @@ use crate::structures::structure;
 use conjunctive_compose::System;
 use interconnection::Network;
 use pair_structure::Role;
-use std::alloc::Global;
+use std::alloc::{AllocError, Global};
 use std::test::Fail;
 
 /// The system of these processes and edges, whose role and structure are spelled so.
@@ -25,8 +25,7 @@ pub fn system(
         return Err(Fail::from("many states"));
     }
     let network = network(alloc, role, groups, joins)?;
-    let mut structures = Vec::new(alloc);
-    structures.push(m)?;
+    let structures = only(alloc, m)?;
     let system = System::make(alloc, &network, &structures)?;
     Ok(system)
 }
@@ -35,12 +34,19 @@ fn network(alloc: Global, role: Role, groups: &str, joins: &str) -> Result<Netwo
     ensures roles { IfOk result (λ n. n.roles ≡ role ∷ []) }
     ensures ends { IfOk result (λ n. n.ends ≡ (0, 0) ∷ []) }
 {
+    let roles = only(alloc, role)?;
+    let ends = only(alloc, (0, 0))?;
     let processes = processes(alloc, groups)?;
     let edges = edges(alloc, joins)?;
-    let mut roles = Vec::new(alloc);
-    roles.push(role)?;
-    let mut ends = Vec::new(alloc);
-    ends.push((0, 0))?;
     let network = Network::make(alloc, roles, ends, processes, edges)?;
     Ok(network)
+}
+
+/// A list of one item.
+fn only<T: Drop>(alloc: Global, item: T) -> Result<Vec<T>, AllocError>
+    ensures { IfOk result (λ list. list.items ≡ item ∷ []) }
+{
+    let mut list = Vec::with_capacity(alloc, 1)?;
+    list.push(item)?;
+    Ok(list)
 }
