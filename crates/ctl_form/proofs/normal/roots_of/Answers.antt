@@ -6,8 +6,7 @@ use Rattle.ctl_form.specs.Normal.{normal}
 use Rattle.ctl_form.specs.Numbered.{normals}
 use Rattle.ctl_form.specs.inside.Roots.{AreRoots}
 use Rattle.ctl_form.specs.Walk.{walk_all}
-use Rattle.ctl_form.proofs.MemberWalkLaws.{grown_after}
-use Rattle.ctl_form.proofs.OpeningLaws.{err_as}
+use Rattle.ctl_form.proofs.MemberWalkLaws.{grown_after, err_as}
 use Rattle.ctl_form.proofs.RootLaws.{roots_fail, roots_step}
 use Rattle.ctl_form.proofs.normal.roots_of.Goals as goal
 

@@ -4,7 +4,7 @@ use Rattle.ctl_form.specs.Members.{forms_of}
 use Rattle.ctl_form.specs.NormalParts.{NormalParts}
 use Rattle.ctl_form.specs.Numbered.{IsNormalOf, IsRefusalOf}
 use Rattle.ctl_form.proofs.NormalLaws.{normal_of, refusal_of, opening_refusal}
-use Rattle.ctl_form.proofs.OpeningLaws.{err_as}
+use Rattle.ctl_form.proofs.MemberWalkLaws.{err_as}
 use Rattle.ctl_form.proofs.normal.Normal.of.Goals as goal
 
 pub returns-in_err-members : goal.returns-in_err-members
