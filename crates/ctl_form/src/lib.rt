@@ -16,6 +16,7 @@ mod next_row;
 mod normal;
 mod normal_fault;
 mod noting;
+mod operators;
 mod pair_spec;
 mod part;
 mod predecessors;
