@@ -84,12 +84,12 @@ made_shared words others made h i lt = ap (λ b. eqb b 1) (h.done (i / 64) (omeg
 pub member_at : (words : List ℕ) (k j : ℕ) → j < 64 → set_of words (64 * k + j) ≡ eqb (bit_at (slice_index words k) j) 1
 member_at words k j lt = let p : (64 * k + j) / 64 ≡ k = omega (arith, lt) in let r : (64 * k + j) % 64 ≡ j = omega (arith, lt) in rw (p, r) refl
 
-unset : (b : ℕ) → b ≡ 0 → eqb b 1 ≡ false
-unset b e = subst (λ x. eqb x 1 ≡ false) (sym e) refl
+eqb_unset : (b : ℕ) → b ≡ 0 → eqb b 1 ≡ false
+eqb_unset b e = subst (λ x. eqb x 1 ≡ false) (sym e) refl
 
 -- no member is at the first bits of a word
 bits_none : (words : List ℕ) (k n : ℕ) → n ≤ 64 → ((i : ℕ) → i < 64 * k → set_of words i ≡ false) → ((j : ℕ) → j < n → bit_at (slice_index words k) j ≡ 0) → (i : ℕ) → i < 64 * k + n → set_of words i ≡ false
-bits_none words k n le before none i lt = elim (dec_lt i (64 * k)) [ yes b ↦ before i b | no g ↦ (let g' : 64 * k ≤ i = omega (arith, g) in let l : i - 64 * k < n = omega (arith, g', lt) in let q : 64 * k + (i - 64 * k) ≡ i = omega (arith, g') in subst (λ m. set_of words m ≡ false) q (member_at words k (i - 64 * k) (omega (arith, l, le)) ∙ unset (bit_at (slice_index words k) (i - 64 * k)) (none (i - 64 * k) l))) ]
+bits_none words k n le before none i lt = elim (dec_lt i (64 * k)) [ yes b ↦ before i b | no g ↦ (let g' : 64 * k ≤ i = omega (arith, g) in let l : i - 64 * k < n = omega (arith, g', lt) in let q : 64 * k + (i - 64 * k) ≡ i = omega (arith, g') in subst (λ m. set_of words m ≡ false) q (member_at words k (i - 64 * k) (omega (arith, l, le)) ∙ eqb_unset (bit_at (slice_index words k) (i - 64 * k)) (none (i - 64 * k) l))) ]
 
 pub word_none : (words : List ℕ) (k : ℕ) → slice_index words k ≡ 0 → ((i : ℕ) → i < 64 * k → set_of words i ≡ false) → (i : ℕ) → i < 64 * (k + 1) → set_of words i ≡ false
 word_none words k e before i lt = bits_none words k 64 (omega arith) before (λ j _. subst (λ w. bit_at w j ≡ 0) (sym e) (bit_at-zero j)) i (omega (arith, lt))

@@ -74,13 +74,13 @@ fault_more small big Over le h = omega (arith, le, h)
 fault_more small big Memory le h = h
 
 -- what is said of the fault is said of the result
-pub err_as : {X : Type 0} (P : X → Type 0) (Q : NormalFault → Type 0) (fault : NormalFault) (result : Result X NormalFault) → IsErrAnd result (λ e. e ≡ fault) → Q fault → MatchResult result P Q
-err_as P Q fault (Ok x) e h = absurd e
-err_as P Q fault (Err e') e h = subst Q (sym e) h
+pub result_from_err : {X : Type 0} (P : X → Type 0) (Q : NormalFault → Type 0) (fault : NormalFault) (result : Result X NormalFault) → IsErrAnd result (λ e. e ≡ fault) → Q fault → MatchResult result P Q
+result_from_err P Q fault (Ok x) e h = absurd e
+result_from_err P Q fault (Err e') e h = subst Q (sym e) h
 
 -- where a step fails, the whole fails
-pub fails : {X : Type 0} (P : X → Type 0) (small big : List Form) (fault : NormalFault) (result : Result X NormalFault) → IsErrAnd result (λ e. e ≡ fault) → Extends small big → IsFaultOf small fault → MatchResult result P (IsFaultOf big)
-fails P small big fault result e x h = err_as P (IsFaultOf big) fault result e (fault_more small big fault x.longer h)
+pub result_from_fault : {X : Type 0} (P : X → Type 0) (small big : List Form) (fault : NormalFault) (result : Result X NormalFault) → IsErrAnd result (λ e. e ≡ fault) → Extends small big → IsFaultOf small fault → MatchResult result P (IsFaultOf big)
+result_from_fault P small big fault result e x h = result_from_err P (IsFaultOf big) fault result e (fault_more small big fault x.longer h)
 
 -- after a walk the list is grown as before
 pub grown_after : (old p : List Part) (f : Form) (a : ℕ) → IsGrown (forms_of old) → IsNumbered (walk f (forms_of old)) f p a → IsGrown (forms_of p)

@@ -5,7 +5,7 @@ use Rattle.ctl_form.specs.MemberTable.{IsNumbered}
 use Rattle.ctl_form.specs.Normal.{normal}
 use Rattle.ctl_form.specs.Walk.{walk}
 use Rattle.ctl_form.specs.inside.Walking.{joined, nexts}
-use Rattle.ctl_form.proofs.MemberWalkLaws.{fails, grown_after, numbered_first, two_walked, extends_first, extends_second, next_walked, extends_next}
+use Rattle.ctl_form.proofs.MemberWalkLaws.{result_from_fault, grown_after, numbered_first, two_walked, extends_first, extends_second, next_walked, extends_next}
 use Rattle.ctl_form.proofs.members.Members.+walking.Goals as goal
 
 pub root_of_two-returns-in_err-first : goal.root_of_two-returns-in_err-first
@@ -13,7 +13,7 @@ root_of_two-returns-in_err-first t c =
     let old = c.args.self.now in
     let f : Form = normal c.args.f_is (form_of c.args.f.now) in
     let h : Form = joined c.args.joint f (normal c.args.g_is (form_of c.args.g.now)) in
-    fails (IsNumbered (walk h (forms_of old)) h c.root_of.new.self) (walk f (forms_of old)) (walk h (forms_of old)) c.in_err-first.field-0.0 c.from_residual.result c.from_residual.ensures.1
+    result_from_fault (IsNumbered (walk h (forms_of old)) h c.root_of.new.self) (walk f (forms_of old)) (walk h (forms_of old)) c.in_err-first.field-0.0 c.from_residual.result c.from_residual.ensures.1
     (extends_first c.args.joint f (normal c.args.g_is (form_of c.args.g.now)) (forms_of old) c.requires) c.in_err-first.ensures
 
 pub root_of_two-root_of-requires-2 : goal.root_of_two-root_of-requires-2
@@ -26,7 +26,7 @@ root_of_two-returns-in_err-second t c =
     let p = c.root_of.new.self in
     let g : Form = normal c.args.g_is (form_of c.args.g.now) in
     let h : Form = joined c.args.joint (normal c.args.f_is (form_of c.args.f.now)) g in
-    fails (IsNumbered (walk h (forms_of old)) h c.root_of-2.new.self) (walk g (forms_of p)) (walk h (forms_of old)) c.in_err-second.field-0.0 c.from_residual-in_err-second.result c.from_residual-in_err-second.ensures.1
+    result_from_fault (IsNumbered (walk h (forms_of old)) h c.root_of-2.new.self) (walk g (forms_of p)) (walk h (forms_of old)) c.in_err-second.field-0.0 c.from_residual-in_err-second.result c.from_residual-in_err-second.ensures.1
     (extends_second c.args.joint (normal c.args.f_is (form_of c.args.f.now)) g (forms_of old) (forms_of p) c.requires c.in_ok-first.ensures.forms) c.in_err-second.ensures
 
 pub root_of_two-note_joined-requires-clause-f : goal.root_of_two-note_joined-requires-clause-f
@@ -44,7 +44,7 @@ root_of_next-returns-in_err-first t c =
     let old = c.args.self.now in
     let f : Form = normal c.args.is (form_of c.args.f.now) in
     let h : Form = nexts c.args.all c.args.side f in
-    fails (IsNumbered (walk h (forms_of old)) h c.root_of.new.self) (walk f (forms_of old)) (walk h (forms_of old)) c.in_err-first.field-0.0 c.from_residual.result c.from_residual.ensures.1
+    result_from_fault (IsNumbered (walk h (forms_of old)) h c.root_of.new.self) (walk f (forms_of old)) (walk h (forms_of old)) c.in_err-first.field-0.0 c.from_residual.result c.from_residual.ensures.1
     (extends_next c.args.all c.args.side f (forms_of old) c.requires) c.in_err-first.ensures
 
 pub root_of_next-returns : goal.root_of_next-returns

@@ -6,7 +6,7 @@ use Rattle.ctl_form.specs.Walk.{noted}
 use Rattle.ctl_form.specs.inside.Walking.{joined, noted_joined}
 use Rattle.ctl_form.specs.declared.joint.Joint.{Joint}
 use Rattle.ctl_form.specs.declared.joint.Joint.TheVariants.{Until}
-use Rattle.ctl_form.proofs.MemberWalkLaws.{extends_same, extends_joined, fails, numbered_kept, joined_numbers}
+use Rattle.ctl_form.proofs.MemberWalkLaws.{extends_same, extends_joined, result_from_fault, numbered_kept, joined_numbers}
 use Rattle.ctl_form.proofs.members.Members.note_release.Goals as goal
 
 pub returns-in_err-both : goal.returns-in_err-both
@@ -15,7 +15,7 @@ returns-in_err-both c =
     let f : Form = form_at forms c.args.f in
     let k : Form = both (form_at forms c.args.g) f in
     let joint : Joint = Until c.args.all c.args.weak in
-    fails (IsNumbered (noted_joined joint f k (noted k forms)) (joined joint f k) c.note.new.self) (noted k forms) (noted_joined joint f k (noted k forms)) c.in_err-both.field-0.0 c.from_residual.result c.from_residual.ensures.1
+    result_from_fault (IsNumbered (noted_joined joint f k (noted k forms)) (joined joint f k) c.note.new.self) (noted k forms) (noted_joined joint f k (noted k forms)) c.in_err-both.field-0.0 c.from_residual.result c.from_residual.ensures.1
     (extends_joined joint f k (noted k forms) (noted k forms) (extends_same (noted k forms) (noted k forms) refl)) c.in_err-both.ensures
 
 pub note_until-requires-clause-f : goal.note_until-requires-clause-f
