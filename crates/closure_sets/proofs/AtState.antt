@@ -14,7 +14,7 @@ use Rattle.closure_sets.specs.Cover.{IsTrueAt, IsChosen, ExpansionCovers}
 use Rattle.closure_sets.specs.Expansion.{clashes}
 use Rattle.closure_sets.specs.Label.{part_of, form_of, is_plain}
 use Rattle.closure_sets.proofs.Closures.{both_form, either_form, until_lt, until_form, next_of, some_of}
-use Rattle.closure_sets.proofs.Covers.{IsTruth, covers}
+use Rattle.closure_sets.proofs.Covers.{IsTruth, expand_covers}
 use Rattle.closure_sets.proofs.Labels.{plain_true, clash_false}
 
 module _ (m : Structure) (on : GoesOn m) (c : ClosureParts) (k : IsClosureParts c) (s : ℕ) (lt : s < length m.states) where
@@ -66,4 +66,4 @@ module _ (m : Structure) (on : GoesOn m) (c : ClosureParts) (k : IsClosureParts 
   }
 
 pub expansion_covers : ExpansionCovers
-expansion_covers c label seed k m on s lt labelled h chosen ch = covers c (is_plain c label) (clashes c label) chosen (IsTrueAt m c s) (λ side. (k.moves.0, (k.moves.3 side).1)) (is_truth m on c k s lt label labelled chosen ch) seed h
+expansion_covers c label seed k m on s lt labelled h chosen ch = expand_covers c (is_plain c label) (clashes c label) chosen (IsTrueAt m c s) (λ side. (k.moves.0, (k.moves.3 side).1)) (is_truth m on c k s lt label labelled chosen ch) seed h

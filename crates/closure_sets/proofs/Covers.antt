@@ -160,8 +160,8 @@ module _ (c : ClosureParts) (easy : ℕ → Bool) (clash : Members → Bool) (ch
       (λ m lt there fresh. among_of (IsMetRow c chosen Is) (λ r. expand c easy clash d r (add treated m)) (ways c easy row m (part_of c m)) (among_map (λ r. IsMet c chosen Is r (add treated m)) (λ r. Among (IsMetRow c chosen Is) (expand c easy clash d r (add treated m))) (ways c easy row m (part_of c m)) (λ r k. expand_met d r (add treated m) (omega (arith, untreated_less (count c) treated m lt fresh)) k) (ways_met row treated m (part_of c m) there refl h))))
 
 -- the rows cover, over any truth of members
-pub covers : (c : ClosureParts) (easy : ℕ → Bool) (clash : Members → Bool) (chosen : ℕ → Side) (Is : ℕ → Type 0) → HasSome c → IsTruth c easy clash chosen Is → (seed : Members) → ((i : ℕ) → seed i ≡ true → Is i) → Among (IsMetRow c chosen Is) (expand c easy clash (count c) seed no_members)
-covers c easy clash chosen Is some t seed h = expand_met c easy clash chosen Is some t (count c) seed no_members (untreated_all (count c) no_members) (record { holds = h; kept = λ i e. absurd (never e); goal = λ i f g all weak p e. absurd (never e); pursued = λ i f g weak p e. absurd (never e) })
+pub expand_covers : (c : ClosureParts) (easy : ℕ → Bool) (clash : Members → Bool) (chosen : ℕ → Side) (Is : ℕ → Type 0) → HasSome c → IsTruth c easy clash chosen Is → (seed : Members) → ((i : ℕ) → seed i ≡ true → Is i) → Among (IsMetRow c chosen Is) (expand c easy clash (count c) seed no_members)
+expand_covers c easy clash chosen Is some t seed h = expand_met c easy clash chosen Is some t (count c) seed no_members (untreated_all (count c) no_members) (record { holds = h; kept = λ i e. absurd (never e); goal = λ i f g all weak p e. absurd (never e); pursued = λ i f g weak p e. absurd (never e) })
   where
     never : false ≡ true → ⊥
     never e = cc

@@ -6,6 +6,7 @@ use Rattle.std.specs.Int.{bit_at}
 use Rattle.std.proofs.lemmas.Bool.{lt-ltb, ltb-true}
 use Rattle.std.proofs.lemmas.Bool.Decides.{nat_tests}
 use Rattle.std.proofs.lemmas.Nat.Bits.{bit_at_or, bit_at-pow_same, bit_at-pow_other, bit_at-lt, bit_at-zero}
+use Rattle.ctl_form.specs.declared.limits.TheConstants.{MAX_MEMBERS}
 use Rattle.closure_sets.specs.Expansion.{lowest, is_open, is_shared}
 use Rattle.closure_sets.specs.Row.{add, set_of, with_member, IsFirstBit, some_below}
 use Rattle.closure_sets.proofs.Lowest.{lowest_found, lowest_none}
@@ -14,21 +15,21 @@ use Rattle.closure_sets.proofs.Lowest.{lowest_found, lowest_none}
 same_member : (i m : ℕ) → i / 64 ≡ m / 64 → i % 64 ≡ m % 64 → i ≡ m
 same_member i m e f = omega (arith, e, f)
 
-set_of-same : (words : List ℕ) (m : ℕ) → length words ≡ 8 → m < 512 → set_of (with_member words m) m ≡ true
+set_of-same : (words : List ℕ) (m : ℕ) → length words ≡ 8 → m < MAX_MEMBERS → set_of (with_member words m) m ≡ true
 set_of-same words m long lt = let l : m / 64 < length words = omega arith in rw (get_or-set_same, bit_at_or, bit_at-pow_same) (let b : bit_at (slice_index words (m / 64)) (m % 64) < 2 = bit_at-lt (slice_index words (m / 64)) (m % 64) in eq-eqb (max (bit_at (slice_index words (m / 64)) (m % 64)) 1) 1 (omega arith))
 
-set_of-other : (words : List ℕ) (m i : ℕ) → length words ≡ 8 → m < 512 → i ≢ m → set_of (with_member words m) i ≡ set_of words i
+set_of-other : (words : List ℕ) (m i : ℕ) → length words ≡ 8 → m < MAX_MEMBERS → i ≢ m → set_of (with_member words m) i ≡ set_of words i
 set_of-other words m i long lt ne = elim (ℕ_discrete (i / 64) (m / 64)) [ yes e ↦ same e | no n ↦ (let n' : i / 64 ≢ m / 64 = n in rw get_or-set_other refl) ]
   where
     same : i / 64 ≡ m / 64 → set_of (with_member words m) i ≡ set_of words i
     same e = let l : m / 64 < length words = omega arith in let n : i % 64 ≢ m % 64 = (λ f. ne (same_member i m e f)) in let x : max (bit_at (slice_index words (m / 64)) (i % 64)) 0 ≡ bit_at (slice_index words (m / 64)) (i % 64) = omega arith in rw (e, get_or-set_same, bit_at_or, bit_at-pow_other, x) refl
 
 -- a member of the set with m is m, or a member of the set
-member_cases : (words : List ℕ) (m : ℕ) → length words ≡ 8 → m < 512 → (i : ℕ) (b : Bool) → eqb i m ≡ b → set_of (with_member words m) i ≡ b || set_of words i
+member_cases : (words : List ℕ) (m : ℕ) → length words ≡ 8 → m < MAX_MEMBERS → (i : ℕ) (b : Bool) → eqb i m ≡ b → set_of (with_member words m) i ≡ b || set_of words i
 member_cases words m long lt i true e = subst (λ k. set_of (with_member words m) k ≡ true) (sym (eqb-true i m e)) (set_of-same words m long lt)
 member_cases words m long lt i false e = set_of-other words m i long lt (λ same. let no : false ≡ true = sym e ∙ eq-eqb i m same in cc)
 
-pub set_of_with_member : (words : List ℕ) (m : ℕ) → length words ≡ 8 → m < 512 → set_of (with_member words m) ≡ add (set_of words) m
+pub set_of_with_member : (words : List ℕ) (m : ℕ) → length words ≡ 8 → m < MAX_MEMBERS → set_of (with_member words m) ≡ add (set_of words) m
 set_of_with_member words m long lt = fun_ext (λ i. member_cases words m long lt i (eqb i m) refl)
 
 -- the bits of the first words are made by op of those of two rows; the other words are still the first row's
@@ -74,22 +75,22 @@ open_bit b d = min b (1 - d)
 abbrev pub shared_bit : ℕ → ℕ → ℕ
 shared_bit b d = min b d
 
-pub made_open : (words others made : List ℕ) → AreMade open_bit words others 8 made → (i : ℕ) → i < 512 → set_of made i ≡ is_open (set_of words) (set_of others) i
+pub made_open : (words others made : List ℕ) → AreMade open_bit words others 8 made → (i : ℕ) → i < MAX_MEMBERS → set_of made i ≡ is_open (set_of words) (set_of others) i
 made_open words others made h i lt = ap (λ b. eqb b 1) (h.done (i / 64) (omega (arith, lt)) (i % 64) (omega arith)) ∙ bit_open (bit_at (slice_index words (i / 64)) (i % 64)) (bit_at (slice_index others (i / 64)) (i % 64)) (bit_at-lt (slice_index words (i / 64)) (i % 64)) (bit_at-lt (slice_index others (i / 64)) (i % 64))
 
-pub made_shared : (words others made : List ℕ) → AreMade shared_bit words others 8 made → (i : ℕ) → i < 512 → set_of made i ≡ is_shared (set_of words) (set_of others) i
+pub made_shared : (words others made : List ℕ) → AreMade shared_bit words others 8 made → (i : ℕ) → i < MAX_MEMBERS → set_of made i ≡ is_shared (set_of words) (set_of others) i
 made_shared words others made h i lt = ap (λ b. eqb b 1) (h.done (i / 64) (omega (arith, lt)) (i % 64) (omega arith)) ∙ bit_shared (bit_at (slice_index words (i / 64)) (i % 64)) (bit_at (slice_index others (i / 64)) (i % 64)) (bit_at-lt (slice_index words (i / 64)) (i % 64)) (bit_at-lt (slice_index others (i / 64)) (i % 64))
 
 -- the member at a bit of a word
 pub member_at : (words : List ℕ) (k j : ℕ) → j < 64 → set_of words (64 * k + j) ≡ eqb (bit_at (slice_index words k) j) 1
 member_at words k j lt = let p : (64 * k + j) / 64 ≡ k = omega (arith, lt) in let r : (64 * k + j) % 64 ≡ j = omega (arith, lt) in rw (p, r) refl
 
-unset : (b : ℕ) → b ≡ 0 → eqb b 1 ≡ false
-unset b e = subst (λ x. eqb x 1 ≡ false) (sym e) refl
+eqb_unset : (b : ℕ) → b ≡ 0 → eqb b 1 ≡ false
+eqb_unset b e = subst (λ x. eqb x 1 ≡ false) (sym e) refl
 
 -- no member is at the first bits of a word
 bits_none : (words : List ℕ) (k n : ℕ) → n ≤ 64 → ((i : ℕ) → i < 64 * k → set_of words i ≡ false) → ((j : ℕ) → j < n → bit_at (slice_index words k) j ≡ 0) → (i : ℕ) → i < 64 * k + n → set_of words i ≡ false
-bits_none words k n le before none i lt = elim (dec_lt i (64 * k)) [ yes b ↦ before i b | no g ↦ (let g' : 64 * k ≤ i = omega (arith, g) in let l : i - 64 * k < n = omega (arith, g', lt) in let q : 64 * k + (i - 64 * k) ≡ i = omega (arith, g') in subst (λ m. set_of words m ≡ false) q (member_at words k (i - 64 * k) (omega (arith, l, le)) ∙ unset (bit_at (slice_index words k) (i - 64 * k)) (none (i - 64 * k) l))) ]
+bits_none words k n le before none i lt = elim (dec_lt i (64 * k)) [ yes b ↦ before i b | no g ↦ (let g' : 64 * k ≤ i = omega (arith, g) in let l : i - 64 * k < n = omega (arith, g', lt) in let q : 64 * k + (i - 64 * k) ≡ i = omega (arith, g') in subst (λ m. set_of words m ≡ false) q (member_at words k (i - 64 * k) (omega (arith, l, le)) ∙ eqb_unset (bit_at (slice_index words k) (i - 64 * k)) (none (i - 64 * k) l))) ]
 
 pub word_none : (words : List ℕ) (k : ℕ) → slice_index words k ≡ 0 → ((i : ℕ) → i < 64 * k → set_of words i ≡ false) → (i : ℕ) → i < 64 * (k + 1) → set_of words i ≡ false
 word_none words k e before i lt = bits_none words k 64 (omega arith) before (λ j _. subst (λ w. bit_at w j ≡ 0) (sym e) (bit_at-zero j)) i (omega (arith, lt))

@@ -4,6 +4,7 @@ ghost use Rattle.ctl_form.specs.Members.{part_at};
 ghost use Rattle.ctl_form.specs.NormalParts.{AreNormalParts};
 ghost use Rattle.closure_sets.specs.ClosureParts.{ClosureParts, IsClosureParts, HasPart, IsNextOf, IsNextAt, AreNexts, after, some_move};
 ghost use Rattle.ctl_form.specs.declared.part.Part.TheVariants.{Yes};
+ghost use Rattle.ctl_form.specs.declared.limits.TheConstants.{MAX_MEMBERS};
 
 use ctl_form::{Normal, Part};
 use pair_structure::{Memory, Side};
@@ -134,7 +135,7 @@ impl Closure {
 }
 
 fn find_in(parts: &[Part], part: Part) -> Option<u32>
-    requires { length parts.now ≤ 512 }
+    requires { length parts.now ≤ MAX_MEMBERS }
     ensures { MatchOption result ((n : ℕ) → n < length parts.now → part_at parts.now n ≡ part → ⊥)
         (λ n. (n < length parts.now) × (part_at parts.now n ≡ part)) }
 {

@@ -9,6 +9,7 @@ ghost use Rattle.closure_sets.specs.Label.{is_plain};
 ghost use Rattle.closure_sets.specs.inside.Marks.{AreMarks};
 ghost use Rattle.closure_sets.specs.Row.{set_of, add};
 ghost use Rattle.closure_sets.specs.inside.Ways.{ways_rows, treat_rows, with_row};
+ghost use Rattle.ctl_form.specs.declared.limits.TheConstants.{MAX_MEMBERS};
 
 use crate::found::Found;
 use crate::marks::Marks;
@@ -114,8 +115,8 @@ fn finish(c: &Closure, found: &mut Found, row: Row) -> Result<(), Memory>
 }
 
 fn moves(row: &Row, a: u32, b: u32) -> bool
-    requires a { a < 512 }
-    requires b { b < 512 }
+    requires a { a < MAX_MEMBERS }
+    requires b { b < MAX_MEMBERS }
     ensures { result ≡ (set_of row.now.words a || set_of row.now.words b) }
 {
     row.has(a) || row.has(b)

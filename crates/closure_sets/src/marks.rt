@@ -5,6 +5,7 @@ ghost use Rattle.closure_sets.specs.Expansion.{clashes};
 ghost use Rattle.closure_sets.specs.Label.{is_local, is_plain, is_wrong, is_yes, value_of_two, and_of, or_of};
 ghost use Rattle.closure_sets.specs.inside.Marks.{AreMarks, AreValues, AreWrong, part_value, value_at};
 ghost use Rattle.closure_sets.specs.Row.{add, set_of};
+ghost use Rattle.ctl_form.specs.declared.limits.TheConstants.{MAX_MEMBERS};
 
 use crate::{Closure, Row};
 use ctl_form::Part;
@@ -130,7 +131,7 @@ fn wrong_row(c: &Closure, a: u8, b: u8) -> Row
 }
 
 fn marked(row: Row, member: u32, wrong: bool) -> Row
-    requires { member < 512 }
+    requires { member < MAX_MEMBERS }
     ensures { set_of result.words ≡ cond wrong (add (set_of row.words) member) (set_of row.words) }
 {
     if wrong {

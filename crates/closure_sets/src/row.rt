@@ -2,11 +2,9 @@ ghost use Rattle.std.specs.Prelude.{◌≡◌, ◌<◌, ◌≤◌, ◌-◌, ℕ,
 ghost use Rattle.std.specs.Int.{bit_at};
 ghost use Rattle.closure_sets.specs.Expansion.{lowest, is_open, is_shared, no_members};
 ghost use Rattle.closure_sets.specs.Row.{add, set_of, with_member, IsFirstBit, some_below};
+ghost use Rattle.ctl_form.specs.declared.limits.TheConstants.{MAX_MEMBERS};
 
-/// How many members a row can hold.
-pub(crate) const MAX_MEMBERS: u32 = 512;
-
-/// A set of member numbers below 512, in eight words of 64 bits. It takes no memory; rows are ordered by their words.
+/// A set of member numbers below `MAX_MEMBERS`, in eight words of 64 bits. It takes no memory; rows are ordered by their words.
 #[derive(Clone, Copy, Debug, PartialEq, Eq, PartialOrd, Ord)]
 pub struct Row {
     words: [u64; 8],
@@ -24,7 +22,7 @@ impl Row {
 
     /// Whether the member is in the row.
     pub fn has(&self, member: u32) -> bool
-        requires { member < 512 }
+        requires { member < MAX_MEMBERS }
         ensures { result ≡ set_of self.now.words member }
     {
         self.words[(member / 64) as usize] >> (member % 64) & 1 == 1
@@ -33,7 +31,7 @@ impl Row {
     /// Puts the member into the row.
     #[tactic(auto, using(crate::proofs::Words::set_of_with_member))]
     pub fn add(&mut self, member: u32)
-        requires { member < 512 }
+        requires { member < MAX_MEMBERS }
         ensures { set_of self.new.words ≡ add (set_of self.old.words) member }
     {
         self.set_bit(member);
@@ -49,7 +47,7 @@ impl Row {
     }
 
     fn set_bit(&mut self, member: u32)
-        requires { member < 512 }
+        requires { member < MAX_MEMBERS }
         ensures words { self.new.words ≡ with_member self.old.words member }
         ensures long { length self.old.words ≡ 8 }
     {
@@ -58,7 +56,7 @@ impl Row {
 
     /// The row with this member too.
     pub(crate) fn with(&self, member: u32) -> Row
-        requires { member < 512 }
+        requires { member < MAX_MEMBERS }
         ensures { set_of result.words ≡ add (set_of self.now.words) member }
     {
         let mut row = *self;
@@ -68,7 +66,7 @@ impl Row {
 
     /// The members that the other row has not.
     pub(crate) fn without(&self, others: &Row) -> Row
-        ensures { (i : ℕ) → i < 512 → set_of result.words i ≡ is_open (set_of self.now.words) (set_of others.now.words) i }
+        ensures { (i : ℕ) → i < MAX_MEMBERS → set_of result.words i ≡ is_open (set_of self.now.words) (set_of others.now.words) i }
     {
         let mut row = *self;
         for place in 0..8 {
@@ -79,7 +77,7 @@ impl Row {
 
     /// The members that the other row has too.
     pub(crate) fn shared(&self, others: &Row) -> Row
-        ensures { (i : ℕ) → i < 512 → set_of result.words i ≡ is_shared (set_of self.now.words) (set_of others.now.words) i }
+        ensures { (i : ℕ) → i < MAX_MEMBERS → set_of result.words i ≡ is_shared (set_of self.now.words) (set_of others.now.words) i }
     {
         let mut row = *self;
         for place in 0..8 {
@@ -90,7 +88,7 @@ impl Row {
 
     /// The lowest member, if it is below the count. A word at a time.
     pub(crate) fn lowest(&self, count: u32) -> Option<u32>
-        requires { count ≤ 512 }
+        requires { count ≤ MAX_MEMBERS }
         ensures { result ≡ lowest count (set_of self.now.words) }
     {
         for place in 0..8 {
@@ -104,7 +102,7 @@ impl Row {
 
     /// The lowest member below the count that the other row has not.
     pub(crate) fn lowest_open(&self, treated: &Row, count: u32) -> Option<u32>
-        requires { count ≤ 512 }
+        requires { count ≤ MAX_MEMBERS }
         ensures { result ≡ lowest count (is_open (set_of self.now.words) (set_of treated.now.words)) }
     {
         self.without(treated).lowest(count)
@@ -112,7 +110,7 @@ impl Row {
 
     /// The lowest member below the count that the other row has too.
     pub(crate) fn lowest_shared(&self, others: &Row, count: u32) -> Option<u32>
-        requires { count ≤ 512 }
+        requires { count ≤ MAX_MEMBERS }
         ensures { result ≡ lowest count (is_shared (set_of self.now.words) (set_of others.now.words)) }
     {
         self.shared(others).lowest(count)

@@ -7,6 +7,7 @@ ghost use Rattle.closure_sets.specs.Row.{add, set_of};
 ghost use Rattle.closure_sets.specs.inside.Ways.{ways_rows};
 ghost use Rattle.ctl_form.specs.declared.part.Part.TheVariants.{Either, Until};
 ghost use Rattle.pair_structure.specs.declared.side.Side.TheVariants.{A, B};
+ghost use Rattle.ctl_form.specs.declared.limits.TheConstants.{MAX_MEMBERS};
 
 use crate::marks::Marks;
 use crate::{Closure, Row};
@@ -71,7 +72,7 @@ fn either_ways(c: &Closure, marks: &Marks, row: &Row, f: u32, g: u32) -> Ways
     requires marks { AreMarks c.now (marks.now.a, marks.now.b) marks.now.values.items (set_of marks.now.wrong.words) }
     requires f { f < count c.now }
     requires g { g < count c.now }
-    requires few { count c.now ≤ 512 }
+    requires few { count c.now ≤ MAX_MEMBERS }
     ensures { ways_rows result ≡ ways c.now (is_plain c.now (marks.now.a, marks.now.b)) (set_of row.now.words) 0 (Either f g) }
 {
     if row.has(f) {
@@ -93,7 +94,7 @@ fn until_ways(c: &Closure, marks: &Marks, row: &Row, until: &UntilMember) -> Way
     requires marks { AreMarks c.now (marks.now.a, marks.now.b) marks.now.values.items (set_of marks.now.wrong.words) }
     requires f { until.now.f < count c.now }
     requires g { until.now.g < count c.now }
-    requires few { count c.now ≤ 512 }
+    requires few { count c.now ≤ MAX_MEMBERS }
     requires member { until.now.member < count c.now }
     requires after_a { after c.now A until.now.member < count c.now }
     requires after_b { after c.now B until.now.member < count c.now }

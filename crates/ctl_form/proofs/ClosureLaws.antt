@@ -74,8 +74,8 @@ walk_all-append (f ∷ fs) gs forms = walk_all-append fs gs (walk f forms)
 pub distinct_members : (roots : List Form) → IsDistinct same_form (members_of roots)
 distinct_members roots = distinct_walk_all roots opening distinct_opening
 
-apart : (f g : Form) → same_form f g ≡ false → f ≡ g → ⊥
-apart f g e same = let h : false ≡ true = sym e ∙ (same_form_decides f g).1 same in cc
+same_form_false : (f g : Form) → same_form f g ≡ false → f ≡ g → ⊥
+same_form_false f g e same = let h : false ≡ true = sym e ∙ (same_form_decides f g).1 same in cc
 
 -- the members are the closure of the roots
 pub members_closure : (roots : List Form) → IsClosure roots (members_of roots)
@@ -86,7 +86,7 @@ members_closure roots = record {
     grown = grown_walk_all roots opening grown_opening;
   };
   least = λ others closed. walk_all_within roots opening others closed.grown closed.rooted closed.opens;
-  distinct = λ i j before within. apart (form_at (members_of roots) i) (form_at (members_of roots) j) (apart_from_distinct same_form (members_of roots) i j truth (distinct_members roots) before within);
+  distinct = λ i j before within. same_form_false (form_at (members_of roots) i) (form_at (members_of roots) j) (apart_from_distinct same_form (members_of roots) i j truth (distinct_members roots) before within);
 }
 
 -- no closed list is shorter than the closure

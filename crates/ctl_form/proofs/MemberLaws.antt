@@ -154,13 +154,13 @@ numbering_push parts p numbering below new room =
       distinct = subst (λ l. IsDistinct same_form l) (sym e) (IsDistinct-push same_form_equivalence forms f numbering.distinct apart);
     }
 
-missed : (b : Bool) (x y : Option ℕ) → (b ≡ true → ⊥) → cond b x y ≡ y
-missed true x y never = absurd (never refl)
-missed false x y never = refl
+cond_missed : (b : Bool) (x y : Option ℕ) → (b ≡ true → ⊥) → cond b x y ≡ y
+cond_missed true x y never = absurd (never refl)
+cond_missed false x y never = refl
 
-which : (b : Bool) (m n : ℕ) (o : Option ℕ) → cond b (Some m) o ≡ Some n → ((b ≡ true) × (m ≡ n)) ⊎ (o ≡ Some n)
-which true m n o e = let h : Some m ≡ Some n = e in inl (refl, cc)
-which false m n o e = inr e
+cond_some_cases : (b : Bool) (m n : ℕ) (o : Option ℕ) → cond b (Some m) o ≡ Some n → ((b ≡ true) × (m ≡ n)) ⊎ (o ≡ Some n)
+cond_some_cases true m n o e = let h : Some m ≡ Some n = e in inl (refl, cc)
+cond_some_cases false m n o e = inr e
 
 -- the look-up that also has the new part
 pub index_push : (parts : List Part) (p : Part) (look look' : Part → Option ℕ) (hits : Part → Bool) → IsIndex parts look → IsNew parts p → ((q : Part) → hits q ≡ true → p ≡ q) → ((q : Part) → look' q ≡ cond (hits q) (Some (length parts)) (look q)) → look' p ≡ Some (length parts) → IsIndex (parts ++ p ∷ []) look'
@@ -169,11 +169,11 @@ index_push parts p look look' hits index new exact updates here =
     let long : length parts' ≡ length parts + 1 = length-append parts (p ∷ []) in
     let same : (k : ℕ) → k < length parts → part_at parts' k ≡ part_at parts k = λ k lt. get_or_append_left parts (p ∷ []) Yes k lt in
     let old : (k : ℕ) → k < length parts → look' (part_at parts' k) ≡ Some k = λ k lt.
-    ap look' (same k lt) ∙ updates (part_at parts k) ∙ missed (hits (part_at parts k)) (Some (length parts)) (look (part_at parts k)) (λ hit. new k lt (sym (exact (part_at parts k) hit))) ∙ index.found k lt in
+    ap look' (same k lt) ∙ updates (part_at parts k) ∙ cond_missed (hits (part_at parts k)) (Some (length parts)) (look (part_at parts k)) (λ hit. new k lt (sym (exact (part_at parts k) hit))) ∙ index.found k lt in
     record {
       found = λ n h. below_more (λ k. look' (part_at parts' k) ≡ Some k) (length parts) old (ap look' (last_at parts p Yes) ∙ here) n (omega (arith, h, long));
-      within = λ q n e. elim (which (hits q) (length parts) n (look q) (sym (updates q) ∙ e)) [ inl h ↦ omega (arith, long, h.1) | inr o ↦ omega (arith, long, index.within q n o) ];
-      only = λ q n e. elim (which (hits q) (length parts) n (look q) (sym (updates q) ∙ e)) [ inl h ↦ ap (part_at parts') (sym h.1) ∙ last_at parts p Yes ∙ exact q h.0 | inr o ↦ same n (index.within q n o) ∙ index.only q n o ];
+      within = λ q n e. elim (cond_some_cases (hits q) (length parts) n (look q) (sym (updates q) ∙ e)) [ inl h ↦ omega (arith, long, h.1) | inr o ↦ omega (arith, long, index.within q n o) ];
+      only = λ q n e. elim (cond_some_cases (hits q) (length parts) n (look q) (sym (updates q) ∙ e)) [ inl h ↦ ap (part_at parts') (sym h.1) ∙ last_at parts p Yes ∙ exact q h.0 | inr o ↦ same n (index.within q n o) ∙ index.only q n o ];
     }
 
 get_same : {X : Type 0} (xs : List X) (n : ℕ) (c d : X) → n < length xs → get_or xs n c ≡ get_or xs n d

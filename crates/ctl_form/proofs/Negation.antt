@@ -9,7 +9,7 @@ use Rattle.ctl_form.specs.Normal.{normal, Says}
 use Rattle.ctl_form.proofs.Decided.{Decided, each_or_some}
 use Rattle.ctl_form.proofs.Moves.{decided_has_move}
 use Rattle.ctl_form.proofs.TruthDecided.{decided_truth, decided_after_one, are_decided}
-use Rattle.ctl_form.proofs.Opposed.{opposed, same_along}
+use Rattle.ctl_form.proofs.Opposed.{along_opposed, same_along}
 
 pub after_same : (m : Structure) (all : Bool) (side : Side) (X X' : ℕ → Type 0) → GoesOn m → ((t : ℕ) → t < length m.states → X' t ↔ X t) → (s : ℕ) → AfterOne m all side X' s ↔ AfterOne m all side X s
 after_same m true side X X' on e s = (λ h t step. (e t (on.within side s t step)).0 (h t step), λ h t step. (e t (on.within side s t step)).1 (h t step))
@@ -45,29 +45,29 @@ not_not : (b : Bool) (F F' : Type 0) → Decided F → F' ↔ Says (not b) F →
 not_not true F F' d e = e
 not_not false F F' d e = (λ h n. n (e.0 h), λ h. elim d [ inl x ↦ e.1 x | inr n ↦ absurd (h n) ])
 
-pub means : (m : Structure) → GoesOn m → (b : Bool) (f : Form) (s : ℕ) → s < length m.states → Holds m (normal b f) s ↔ Says b (Holds m f s)
-means m on true truth s lt = (λ h. h, λ h. h)
-means m on false truth s lt = (λ h _. h, λ h. h tt)
-means m on true falsity s lt = (λ h. h, λ h. h)
-means m on false falsity s lt = (λ _ h. h, λ _. tt)
-means m on true (at side local) s lt = (λ h. h, λ h. h)
-means m on false (at side local) s lt = (λ h. h, λ h. h)
-means m on b (neg f) s lt = not_not b (Holds m f s) (Holds m (normal (not b) f) s) (decided_truth m on f s lt) (means m on (not b) f s lt)
-means m on true (both f g) s lt = join_both (Holds m f s) (Holds m g s) (Holds m (normal true f) s) (Holds m (normal true g) s) (means m on true f s lt) (means m on true g s lt)
-means m on false (both f g) s lt = both_fails (Holds m f s) (Holds m g s) (Holds m (normal false f) s) (Holds m (normal false g) s) (decided_truth m on f s lt) (means m on false f s lt) (means m on false g s lt)
-means m on true (either f g) s lt = join_either (Holds m f s) (Holds m g s) (Holds m (normal true f) s) (Holds m (normal true g) s) (means m on true f s lt) (means m on true g s lt)
-means m on false (either f g) s lt = either_fails (Holds m f s) (Holds m g s) (Holds m (normal false f) s) (Holds m (normal false g) s) (means m on false f s lt) (means m on false g s lt)
-means m on true (implies f g) s lt = implies_same (Holds m f s) (Holds m g s) (Holds m (normal false f) s) (Holds m (normal true g) s) (decided_truth m on f s lt) (means m on false f s lt) (means m on true g s lt)
-means m on false (implies f g) s lt = implies_fails (Holds m f s) (Holds m g s) (Holds m (normal true f) s) (Holds m (normal false g) s) (decided_truth m on f s lt) (means m on true f s lt) (means m on false g s lt)
-means m on true (next all (Some side) f) s lt = after_same m all side (Holds m f) (Holds m (normal true f)) on (means m on true f) s
-means m on false (next all (Some side) f) s lt = after_opposed m all side (Holds m f) (Holds m (normal false f)) on (decided_truth m on f) (means m on false f) s
-means m on true (next true None f) s lt = join_both (AfterOne m true A (Holds m f) s) (AfterOne m true B (Holds m f) s) _ _ (after_same m true A (Holds m f) (Holds m (normal true f)) on (means m on true f) s) (after_same m true B (Holds m f) (Holds m (normal true f)) on (means m on true f) s)
-means m on true (next false None f) s lt = join_either (AfterOne m false A (Holds m f) s) (AfterOne m false B (Holds m f) s) _ _ (after_same m false A (Holds m f) (Holds m (normal true f)) on (means m on true f) s) (after_same m false B (Holds m f) (Holds m (normal true f)) on (means m on true f) s)
-means m on false (next true None f) s lt = both_fails (AfterOne m true A (Holds m f) s) (AfterOne m true B (Holds m f) s) _ _ (decided_after_one m on true A (Holds m f) (decided_truth m on f) s) (after_opposed m true A (Holds m f) (Holds m (normal false f)) on (decided_truth m on f) (means m on false f) s) (after_opposed m true B (Holds m f) (Holds m (normal false f)) on (decided_truth m on f) (means m on false f) s)
-means m on false (next false None f) s lt = either_fails (AfterOne m false A (Holds m f) s) (AfterOne m false B (Holds m f) s) _ _ (after_opposed m false A (Holds m f) (Holds m (normal false f)) on (decided_truth m on f) (means m on false f) s) (after_opposed m false B (Holds m f) (Holds m (normal false f)) on (decided_truth m on f) (means m on false f) s)
-means m on true (always all f) s lt = same_along m on all true (Holds m f) (Holds m falsity) (Holds m (normal true f)) (Holds m falsity) (are_decided m on f falsity) (record { first = means m on true f; second = λ t _. (λ h. h, λ h. h) }) s lt
-means m on false (always all f) s lt = opposed m on all true (Holds m f) (Holds m falsity) (Holds m truth) (Holds m (normal false f)) (are_decided m on f falsity) (record { first = λ t _. (λ _ u. u, λ _. tt); second = λ t l. (λ h. ((means m on false f t l).0 h, λ u. u), λ h. (means m on false f t l).1 h.0) }) s lt
-means m on true (sometime all f) s lt = same_along m on all false (Holds m truth) (Holds m f) (Holds m truth) (Holds m (normal true f)) (are_decided m on truth f) (record { first = λ t _. (λ h. h, λ h. h); second = means m on true f }) s lt
-means m on false (sometime all f) s lt = opposed m on all false (Holds m truth) (Holds m f) (Holds m (normal false f)) (Holds m falsity) (are_decided m on truth f) (record { first = means m on false f; second = λ t l. (λ h. absurd h, λ h. h.0 tt) }) s lt
-means m on true (until all weak f g) s lt = same_along m on all weak (Holds m f) (Holds m g) (Holds m (normal true f)) (Holds m (normal true g)) (are_decided m on f g) (record { first = means m on true f; second = means m on true g }) s lt
-means m on false (until all weak f g) s lt = opposed m on all weak (Holds m f) (Holds m g) (Holds m (normal false g)) (λ t. Holds m (normal false f) t × Holds m (normal false g) t) (are_decided m on f g) (record { first = means m on false g; second = λ t l. (λ h. ((means m on false f t l).0 h.0, (means m on false g t l).0 h.1), λ h. ((means m on false f t l).1 h.0, (means m on false g t l).1 h.1)) }) s lt
+pub normal_says : (m : Structure) → GoesOn m → (b : Bool) (f : Form) (s : ℕ) → s < length m.states → Holds m (normal b f) s ↔ Says b (Holds m f s)
+normal_says m on true truth s lt = (λ h. h, λ h. h)
+normal_says m on false truth s lt = (λ h _. h, λ h. h tt)
+normal_says m on true falsity s lt = (λ h. h, λ h. h)
+normal_says m on false falsity s lt = (λ _ h. h, λ _. tt)
+normal_says m on true (at side local) s lt = (λ h. h, λ h. h)
+normal_says m on false (at side local) s lt = (λ h. h, λ h. h)
+normal_says m on b (neg f) s lt = not_not b (Holds m f s) (Holds m (normal (not b) f) s) (decided_truth m on f s lt) (normal_says m on (not b) f s lt)
+normal_says m on true (both f g) s lt = join_both (Holds m f s) (Holds m g s) (Holds m (normal true f) s) (Holds m (normal true g) s) (normal_says m on true f s lt) (normal_says m on true g s lt)
+normal_says m on false (both f g) s lt = both_fails (Holds m f s) (Holds m g s) (Holds m (normal false f) s) (Holds m (normal false g) s) (decided_truth m on f s lt) (normal_says m on false f s lt) (normal_says m on false g s lt)
+normal_says m on true (either f g) s lt = join_either (Holds m f s) (Holds m g s) (Holds m (normal true f) s) (Holds m (normal true g) s) (normal_says m on true f s lt) (normal_says m on true g s lt)
+normal_says m on false (either f g) s lt = either_fails (Holds m f s) (Holds m g s) (Holds m (normal false f) s) (Holds m (normal false g) s) (normal_says m on false f s lt) (normal_says m on false g s lt)
+normal_says m on true (implies f g) s lt = implies_same (Holds m f s) (Holds m g s) (Holds m (normal false f) s) (Holds m (normal true g) s) (decided_truth m on f s lt) (normal_says m on false f s lt) (normal_says m on true g s lt)
+normal_says m on false (implies f g) s lt = implies_fails (Holds m f s) (Holds m g s) (Holds m (normal true f) s) (Holds m (normal false g) s) (decided_truth m on f s lt) (normal_says m on true f s lt) (normal_says m on false g s lt)
+normal_says m on true (next all (Some side) f) s lt = after_same m all side (Holds m f) (Holds m (normal true f)) on (normal_says m on true f) s
+normal_says m on false (next all (Some side) f) s lt = after_opposed m all side (Holds m f) (Holds m (normal false f)) on (decided_truth m on f) (normal_says m on false f) s
+normal_says m on true (next true None f) s lt = join_both (AfterOne m true A (Holds m f) s) (AfterOne m true B (Holds m f) s) _ _ (after_same m true A (Holds m f) (Holds m (normal true f)) on (normal_says m on true f) s) (after_same m true B (Holds m f) (Holds m (normal true f)) on (normal_says m on true f) s)
+normal_says m on true (next false None f) s lt = join_either (AfterOne m false A (Holds m f) s) (AfterOne m false B (Holds m f) s) _ _ (after_same m false A (Holds m f) (Holds m (normal true f)) on (normal_says m on true f) s) (after_same m false B (Holds m f) (Holds m (normal true f)) on (normal_says m on true f) s)
+normal_says m on false (next true None f) s lt = both_fails (AfterOne m true A (Holds m f) s) (AfterOne m true B (Holds m f) s) _ _ (decided_after_one m on true A (Holds m f) (decided_truth m on f) s) (after_opposed m true A (Holds m f) (Holds m (normal false f)) on (decided_truth m on f) (normal_says m on false f) s) (after_opposed m true B (Holds m f) (Holds m (normal false f)) on (decided_truth m on f) (normal_says m on false f) s)
+normal_says m on false (next false None f) s lt = either_fails (AfterOne m false A (Holds m f) s) (AfterOne m false B (Holds m f) s) _ _ (after_opposed m false A (Holds m f) (Holds m (normal false f)) on (decided_truth m on f) (normal_says m on false f) s) (after_opposed m false B (Holds m f) (Holds m (normal false f)) on (decided_truth m on f) (normal_says m on false f) s)
+normal_says m on true (always all f) s lt = same_along m on all true (Holds m f) (Holds m falsity) (Holds m (normal true f)) (Holds m falsity) (are_decided m on f falsity) (record { first = normal_says m on true f; second = λ t _. (λ h. h, λ h. h) }) s lt
+normal_says m on false (always all f) s lt = along_opposed m on all true (Holds m f) (Holds m falsity) (Holds m truth) (Holds m (normal false f)) (are_decided m on f falsity) (record { first = λ t _. (λ _ u. u, λ _. tt); second = λ t l. (λ h. ((normal_says m on false f t l).0 h, λ u. u), λ h. (normal_says m on false f t l).1 h.0) }) s lt
+normal_says m on true (sometime all f) s lt = same_along m on all false (Holds m truth) (Holds m f) (Holds m truth) (Holds m (normal true f)) (are_decided m on truth f) (record { first = λ t _. (λ h. h, λ h. h); second = normal_says m on true f }) s lt
+normal_says m on false (sometime all f) s lt = along_opposed m on all false (Holds m truth) (Holds m f) (Holds m (normal false f)) (Holds m falsity) (are_decided m on truth f) (record { first = normal_says m on false f; second = λ t l. (λ h. absurd h, λ h. h.0 tt) }) s lt
+normal_says m on true (until all weak f g) s lt = same_along m on all weak (Holds m f) (Holds m g) (Holds m (normal true f)) (Holds m (normal true g)) (are_decided m on f g) (record { first = normal_says m on true f; second = normal_says m on true g }) s lt
+normal_says m on false (until all weak f g) s lt = along_opposed m on all weak (Holds m f) (Holds m g) (Holds m (normal false g)) (λ t. Holds m (normal false f) t × Holds m (normal false g) t) (are_decided m on f g) (record { first = normal_says m on false g; second = λ t l. (λ h. ((normal_says m on false f t l).0 h.0, (normal_says m on false g t l).0 h.1), λ h. ((normal_says m on false f t l).1 h.0, (normal_says m on false g t l).1 h.1)) }) s lt

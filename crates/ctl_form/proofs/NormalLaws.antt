@@ -15,7 +15,7 @@ use Rattle.ctl_form.specs.declared.normal_fault.NormalFault.{NormalFault}
 use Rattle.ctl_form.specs.declared.normal_fault.NormalFault.TheVariants.{Over, Memory}
 use Rattle.ctl_form.specs.declared.part.Part.{Part}
 use Rattle.ctl_form.proofs.ClosureLaws.{members_closure, length-members_of}
-use Rattle.ctl_form.proofs.Negation.{means}
+use Rattle.ctl_form.proofs.Negation.{normal_says}
 
 -- the formula of a root is the normal form of its conjunct
 root_formula : (conjuncts : List Form) (n : NormalParts) (i : ℕ) → map (formula_of n) n.roots ≡ normals conjuncts → i < length conjuncts → formula_of n (get_or n.roots i 0) ≡ normal true (form_at conjuncts i)
@@ -24,7 +24,7 @@ root_formula conjuncts n i rooted h =
     sym (get_or-map (formula_of n) n.roots i 0 truth (omega (arith, h, long))) ∙ ap (λ l. get_or l i truth) rooted ∙ get_or-map (normal true) conjuncts i truth truth h
 
 pub roots_mean : (conjuncts : List Form) (n : NormalParts) → map (formula_of n) n.roots ≡ normals conjuncts → RootsMean conjuncts n
-roots_mean conjuncts n rooted m on i s h lt = subst (λ f. Holds m f s ↔ Holds m (form_at conjuncts i) s) (sym (root_formula conjuncts n i rooted h)) (means m on true (form_at conjuncts i) s lt)
+roots_mean conjuncts n rooted m on i s h lt = subst (λ f. Holds m f s ↔ Holds m (form_at conjuncts i) s) (sym (root_formula conjuncts n i rooted h)) (normal_says m on true (form_at conjuncts i) s lt)
 
 -- from the opening members the walk of the roots gives the closure
 pub normal_of : (conjuncts : List Form) (n : NormalParts) (old : List Part) → IsNumbering n.parts → forms_of old ≡ opening → AreRoots (normals conjuncts) old n.parts n.roots → IsNormalOf conjuncts n

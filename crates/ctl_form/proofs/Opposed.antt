@@ -61,8 +61,8 @@ opposed_decided : (m : Structure) (P Q P' Q' : ℕ → Type 0) → AreDecided m 
 opposed_decided m P Q P' Q' d o = record { first = λ t lt. decided_iff (o.first t lt).1 (o.first t lt).0 (decided_not (d.second t lt)); second = λ t lt. decided_iff (o.second t lt).1 (o.second t lt).0 (decided_both (decided_not (d.first t lt)) (decided_not (d.second t lt))) }
 
 -- the opposite holds exactly where the until does not
-pub opposed : (m : Structure) → GoesOn m → (all weak : Bool) (P Q P' Q' : ℕ → Type 0) → AreDecided m P Q → AreOpposed m P Q P' Q' → (s : ℕ) → s < length m.states → AlongPaths m (not all) (not weak) P' Q' s ↔ (AlongPaths m all weak P Q s → ⊥)
-opposed m on all weak P Q P' Q' d o s lt = (λ h' h. rounds_from m on all weak P Q P' Q' d o s lt (along_to m on (not all) (not weak) P' Q' (opposed_decided m P Q P' Q' d o) s lt h') (along_to m on all weak P Q d s lt h), λ none. along_from m on (not all) (not weak) P' Q' s lt (rounds_to m on all weak P Q P' Q' d o s lt (λ r. none (along_from m on all weak P Q s lt r))))
+pub along_opposed : (m : Structure) → GoesOn m → (all weak : Bool) (P Q P' Q' : ℕ → Type 0) → AreDecided m P Q → AreOpposed m P Q P' Q' → (s : ℕ) → s < length m.states → AlongPaths m (not all) (not weak) P' Q' s ↔ (AlongPaths m all weak P Q s → ⊥)
+along_opposed m on all weak P Q P' Q' d o s lt = (λ h' h. rounds_from m on all weak P Q P' Q' d o s lt (along_to m on (not all) (not weak) P' Q' (opposed_decided m P Q P' Q' d o) s lt h') (along_to m on all weak P Q d s lt h), λ none. along_from m on (not all) (not weak) P' Q' s lt (rounds_to m on all weak P Q P' Q' d o s lt (λ r. none (along_from m on all weak P Q s lt r))))
 
 -- an until depends only on its parts at the states
 pub record AreSame (m : Structure) (P Q P' Q' : ℕ → Type 0) : Type 0 where

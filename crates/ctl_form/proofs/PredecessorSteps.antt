@@ -1,12 +1,14 @@
 -- The lists of predecessors, one step further each.
-use Rattle.std.proofs.Common.{ℕ, suc, ◌≡◌, ◌≢◌, ◌+◌, ◌<◌, ◌≤◌, List, [], ◌∷◌, ◌++◌, length, slice_index, slice_set, refl, subst, sym, ◌∙◌, arith, length-append, length-set, get_or-set_same, get_or-set_other}
+use Rattle.std.proofs.Common.{ℕ, suc, ◌≡◌, ◌≢◌, ◌+◌, ◌<◌, ◌≤◌, List, [], ◌∷◌, ◌++◌, length, get_or, slice_index, slice_set, refl, subst, sym, ◌∙◌, arith, length-append, length-set, get_or-set_same, get_or-set_other}
 use Rattle.std.proofs.Math.Decide.{ℕ_discrete, dec_lt}
+use Rattle.std.proofs.lemmas.Grind.{get_or_default_zero}
 use Rattle.std.proofs.lemmas.List.{get_or_append_left, get_or_push}
 use Rattle.pair_structure.specs.declared.side.Move.{Move}
-use Rattle.pair_structure.specs.Structure.{Structure, Reaches}
+use Rattle.pair_structure.specs.Structure.{Structure, GoesOn, Reaches}
 use Rattle.pair_structure.specs.StructureFault.{move_at}
-use Rattle.ctl_form.specs.inside.Predecessors.{EndsAt, AreLinked, AddsSources, ArePartsOf}
+use Rattle.ctl_form.specs.inside.Predecessors.{EndsAt, AreLinked, AddsSources, ArePartsOf, ArePredecessors}
 use Rattle.ctl_form.proofs.MovePlaces.{reaches_by, move_of}
+use Rattle.ctl_form.proofs.Moves.{reaches_from}
 
 -- a move that leads elsewhere
 EndsAt-other : (moves : List Move) (t end n : ℕ) → (move_at moves n).to ≢ t → EndsAt moves t end n → EndsAt moves t end (n + 1)
@@ -108,3 +110,25 @@ ArePartsOf-push m n begins old new h add = record { long = length-append begins 
       where
         at_n : Reaches m s n → (k : ℕ) × (slice_index (begins ++ length new ∷ []) n ≤ k) × (k < slice_index (begins ++ length new ∷ []) (n + 1)) × (slice_index new k ≡ s)
         at_n r = let j = move_of m s n r in let u = add.complete j.0 (omega arith) j.1 j.3 in (u.0, rw (begin n (omega arith), h.last) u.1, rw end u.2, u.3 ∙ j.2)
+
+-- where the part of state t begins, as it is read
+pub begin_read : (m : Structure) (begins sources : List ℕ) (t b : ℕ) → ArePredecessors m begins sources → t ≤ length m.states → b ≡ get_or begins t b → b ≡ slice_index begins t
+begin_read m begins sources t b parts le e = e ∙ get_or_default_zero begins t b (omega (arith, le, parts.long))
+
+-- a place in the part of state s, and the state that stands there
+pub record IsSource (m : Structure) (begins sources : List ℕ) (s place source : ℕ) : Type 0 where
+  pub from : slice_index begins s ≤ place
+  pub before : place < slice_index begins (s + 1)
+  pub read : source ≡ slice_index sources place
+  pub within : source < length m.states
+
+pub place_within : (m : Structure) (begins sources : List ℕ) (s place end : ℕ) → ArePredecessors m begins sources → s < length m.states → end ≡ get_or begins (s + 1) end → place < end → place < length sources
+place_within m begins sources s place end parts lt e before = omega (arith, before, begin_read m begins sources (s + 1) end parts (omega (arith, lt)) e, parts.within (s + 1) (omega (arith, lt)))
+
+pub source_read : (m : Structure) (begins sources : List ℕ) (s place begin end source : ℕ) → GoesOn m → ArePredecessors m begins sources → s < length m.states → begin ≡ get_or begins s begin → end ≡ get_or begins (s + 1) end → begin ≤ place → place < end
+    → source ≡ get_or sources place source → IsSource m begins sources s place source
+source_read m begins sources s place begin end source on parts lt b e le gt r =
+    let read : source ≡ slice_index sources place = r ∙ get_or_default_zero sources place source (place_within m begins sources s place end parts lt e gt) in
+    let from : slice_index begins s ≤ place = omega (arith, le, begin_read m begins sources s begin parts (omega (arith, lt)) b) in
+    let before : place < slice_index begins (s + 1) = omega (arith, gt, begin_read m begins sources (s + 1) end parts (omega (arith, lt)) e) in
+    record { from = from; before = before; read = read; within = subst (λ t. t < length m.states) (sym read) (reaches_from m on _ _ (parts.leads s place lt from before)) }

@@ -5,7 +5,7 @@ use Rattle.pair_structure.specs.Structure.{Structure, Reaches, GoesOn}
 use Rattle.ctl_form.specs.Rounds.{AfterMove, Outset, Round, InRounds}
 use Rattle.ctl_form.proofs.Decided.{Decided, decided_either, decided_both, decided_not, decided_iff, decided_stands}
 use Rattle.ctl_form.proofs.Moves.{reaches_within, decided_after, after_map}
-use Rattle.ctl_form.proofs.Settle.{IsSettled, settles, earlier}
+use Rattle.ctl_form.proofs.Settle.{IsSettled, falls_settle, holds_earlier}
 
 -- both parts of an until are decided at the states
 pub record AreDecided (m : Structure) (P Q : ℕ → Type 0) : Type 0 where
@@ -28,10 +28,10 @@ pub stage_map : (m : Structure) (all : Bool) (P Q X Y : ℕ → Type 0) (s : ℕ
 stage_map m all P Q X Y s f (inl q) = inl q
 stage_map m all P Q X Y s f (inr h) = inr (h.0, after_map m all X Y s f h.1)
 
-falls : (m : Structure) (all : Bool) (P Q : ℕ → Type 0) (n s : ℕ) → Round m all true P Q (suc n) s → Round m all true P Q n s
-falls m all P Q zero s (inl q) = inr q
-falls m all P Q zero s (inr h) = inl h.0
-falls m all P Q (suc n) s h = stage_map m all P Q (Round m all true P Q (suc n)) (Round m all true P Q n) s (λ t _. falls m all P Q n t) h
+round_falls : (m : Structure) (all : Bool) (P Q : ℕ → Type 0) (n s : ℕ) → Round m all true P Q (suc n) s → Round m all true P Q n s
+round_falls m all P Q zero s (inl q) = inr q
+round_falls m all P Q zero s (inr h) = inl h.0
+round_falls m all P Q (suc n) s h = stage_map m all P Q (Round m all true P Q (suc n)) (Round m all true P Q n) s (λ t _. round_falls m all P Q n t) h
 
 pub rises : (m : Structure) (all : Bool) (P Q : ℕ → Type 0) (n s : ℕ) → Round m all false P Q n s → Round m all false P Q (suc n) s
 rises m all P Q zero s q = inl q
@@ -47,7 +47,7 @@ IsLast m all true P Q k = (n s : ℕ) → s < length m.states → Round m all tr
 IsLast m all false P Q k = (n s : ℕ) → s < length m.states → Round m all false P Q n s → Round m all false P Q k s
 
 weak_on : (m : Structure) → GoesOn m → (all : Bool) (P Q : ℕ → Type 0) (k : ℕ) → IsSettled (Round m all true P Q) (length m.states) k → (n s : ℕ) → s < length m.states → Round m all true P Q k s → Round m all true P Q n s
-weak_on m on all P Q k settled zero s lt r = earlier (λ i t. Round m all true P Q i t) s (λ i. falls m all P Q i s) zero k (omega arith) r
+weak_on m on all P Q k settled zero s lt r = holds_earlier (λ i t. Round m all true P Q i t) s (λ i. round_falls m all P Q i s) zero k (omega arith) r
 weak_on m on all P Q k settled (suc n) s lt r = stage_map m all P Q (Round m all true P Q k) (Round m all true P Q n) s (λ t step. weak_on m on all P Q k settled n t (reaches_within m on s t step)) (settled s lt r)
 
 strong_on : (m : Structure) → GoesOn m → (all : Bool) (P Q : ℕ → Type 0) (k : ℕ) → ((s : ℕ) → s < length m.states → Round m all false P Q (suc k) s → Round m all false P Q k s) → (n s : ℕ) → s < length m.states → Round m all false P Q n s → Round m all false P Q k s
@@ -56,8 +56,8 @@ strong_on m on all P Q k settled (suc n) s lt r = settled s lt (stage_map m all 
 
 -- after some round nothing changes
 pub last_round : (m : Structure) → GoesOn m → (all weak : Bool) (P Q : ℕ → Type 0) → AreDecided m P Q → (k : ℕ) × IsLast m all weak P Q k
-last_round m on all true P Q d = let u = settles (Round m all true P Q) (length m.states) (decided_round m on all true P Q d) (λ k s _. falls m all P Q k s) 0 in (u.0, weak_on m on all P Q u.0 u.2)
-last_round m on all false P Q d = let u = settles (λ k s. Round m all false P Q k s → ⊥) (length m.states) (λ k s lt. decided_not (decided_round m on all false P Q d k s lt)) (λ k s _ none r. none (rises m all P Q k s r)) 0 in
+last_round m on all true P Q d = let u = falls_settle (Round m all true P Q) (length m.states) (decided_round m on all true P Q d) (λ k s _. round_falls m all P Q k s) 0 in (u.0, weak_on m on all P Q u.0 u.2)
+last_round m on all false P Q d = let u = falls_settle (λ k s. Round m all false P Q k s → ⊥) (length m.states) (λ k s lt. decided_not (decided_round m on all false P Q d k s lt)) (λ k s _ none r. none (rises m all P Q k s r)) 0 in
     (u.0, strong_on m on all P Q u.0 (λ s lt. decided_stands (Round m all false P Q u.0 s) (Round m all false P Q (suc u.0) s) (decided_round m on all false P Q d u.0 s lt) (u.2 s lt)))
 
 at_last : (m : Structure) (all weak : Bool) (P Q : ℕ → Type 0) (k s : ℕ) → s < length m.states → IsLast m all weak P Q k → Decided (Round m all weak P Q k s) → Decided (InRounds m all weak P Q s)

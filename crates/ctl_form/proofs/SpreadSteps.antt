@@ -16,7 +16,7 @@ use Rattle.ctl_form.proofs.MovePlaces.{move_of, reaches_by}
 use Rattle.ctl_form.proofs.Moves.{reaches_within, reaches_from, after_map}
 use Rattle.ctl_form.proofs.Rounds.{AreDecided, Stage}
 use Rattle.ctl_form.proofs.Rows.{decided_at, false_of, IsAt-set_same, IsAt-set_keeps, IsAt-set_back}
-use Rattle.ctl_form.proofs.Unfold.{unfolds, labelled}
+use Rattle.ctl_form.proofs.Unfold.{along_unfolds, label_along}
 
 -- what the worklist has still to do: each state may be marked and put on it once more
 abbrev pub left_to_do : List Bool → List ℕ → ℕ
@@ -52,7 +52,7 @@ IsSpread-outset m on all p q work long list = record {
   long = long;
   listed = λ k d lt. (let l : slice_index_or work k d < length q = list.within k d lt in omega (arith, l, long));
   marked = list.marked;
-  sound = λ s lt h. (unfolds m on all false (IsAt p) (IsAt q) (rows_decided m p q) s lt).1 (inl h);
+  sound = λ s lt h. (along_unfolds m on all false (IsAt p) (IsAt q) (rows_decided m p q) s lt).1 (inl h);
   started = λ s h. h;
   spread = λ s lt x after. absurd (none all s lt after);
 }
@@ -101,7 +101,7 @@ IsSpread-seen m all p q row work begins sources hand k parts lt_hand seen h = re
 
 -- with nothing on the list the marks are exact
 pub IsSpread-done : (m : Structure) → GoesOn m → (all : Bool) (p q row : List Bool) (work : List ℕ) → length work ≡ 0 → IsSpread m all p q row work Anyhow → IsRowOf (length m.states) (AlongPaths m all false (IsAt p) (IsAt q)) row
-IsSpread-done m on all p q row work empty h = record { long = h.long; exact = labelled m on all (IsAt p) (IsAt q) (IsAt row) (rows_decided m p q) (record { sound = h.sound; closed = closed }) }
+IsSpread-done m on all p q row work empty h = record { long = h.long; exact = label_along m on all (IsAt p) (IsAt q) (IsAt row) (rows_decided m p q) (record { sound = h.sound; closed = closed }) }
   where
     not_listed : (t : ℕ) → Contains work t → ⊥
     not_listed t c = omega (arith, empty, c.1)
@@ -142,7 +142,7 @@ module _ (m : Structure) (on : GoesOn m) (all : Bool) (p q : List Bool) (begins 
       lt_row = omega (arith, lt_source, h.long)
 
       here : AlongPaths m all false (IsAt p) (IsAt q) (slice_index sources k)
-      here = (unfolds m on all false (IsAt p) (IsAt q) (rows_decided m p q) (slice_index sources k) lt_source).1 (inr (admitted.first, after_admitted (AlongPaths m all false (IsAt p) (IsAt q)) row all refl (h.sound hand lt_hand marked) (λ t step r. h.sound t (reaches_within m on (slice_index sources k) t step) r) admitted))
+      here = (along_unfolds m on all false (IsAt p) (IsAt q) (rows_decided m p q) (slice_index sources k) lt_source).1 (inr (admitted.first, after_admitted (AlongPaths m all false (IsAt p) (IsAt q)) row all refl (h.sound hand lt_hand marked) (λ t step r. h.sound t (reaches_within m on (slice_index sources k) t step) r) admitted))
 
       sound : (s : ℕ) → s < length m.states → IsAt (slice_set row (slice_index sources k) true) s → AlongPaths m all false (IsAt p) (IsAt q) s
       sound s lt y = elim (ℕ_discrete s (slice_index sources k)) [ yes e ↦ subst (λ i. AlongPaths m all false (IsAt p) (IsAt q) i) (sym e) here | no n ↦ (let differ : s ≢ slice_index sources k = n in h.sound s lt (IsAt-set_back row (slice_index sources k) s differ y)) ]

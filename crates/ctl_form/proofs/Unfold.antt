@@ -8,9 +8,9 @@ use Rattle.ctl_form.proofs.Rounds.{AreDecided, last_round, Stage, stage_map}
 use Rattle.ctl_form.proofs.Along.{along_to, along_from}
 
 -- a property that has what Q has, and what P has whose moves lead to it, has the strong until
-pub least : (m : Structure) → GoesOn m → (all : Bool) (P Q X : ℕ → Type 0) → ((s : ℕ) → s < length m.states → Stage m all P Q X s → X s) → (n s : ℕ) → s < length m.states → Round m all false P Q n s → X s
-least m on all P Q X h zero s lt q = h s lt (inl q)
-least m on all P Q X h (suc n) s lt r = h s lt (stage_map m all P Q (Round m all false P Q n) X s (λ t step. least m on all P Q X h n t (reaches_within m on s t step)) r)
+pub round_least : (m : Structure) → GoesOn m → (all : Bool) (P Q X : ℕ → Type 0) → ((s : ℕ) → s < length m.states → Stage m all P Q X s → X s) → (n s : ℕ) → s < length m.states → Round m all false P Q n s → X s
+round_least m on all P Q X h zero s lt q = h s lt (inl q)
+round_least m on all P Q X h (suc n) s lt r = h s lt (stage_map m all P Q (Round m all false P Q n) X s (λ t step. round_least m on all P Q X h n t (reaches_within m on s t step)) r)
 
 outset_of : (m : Structure) (all : Bool) (P Q X : ℕ → Type 0) (s : ℕ) → Stage m all P Q X s → P s ⊎ Q s
 outset_of m all P Q X s (inl q) = inr q
@@ -38,8 +38,8 @@ stage_in m on all true P Q d s lt h = weak_in
 stage_in m on all false P Q d s lt h = let u = last_round m on all false P Q d in (suc u.0, stage_map m all P Q (InRounds m all false P Q) (Round m all false P Q u.0) s (λ t step r. u.1 r.0 t (reaches_within m on s t step) r.1) h)
 
 -- the same for paths: an until holds exactly where its second part does, or its first and it after each move, or some
-pub unfolds : (m : Structure) → GoesOn m → (all weak : Bool) (P Q : ℕ → Type 0) → AreDecided m P Q → (s : ℕ) → s < length m.states → AlongPaths m all weak P Q s ↔ Stage m all P Q (AlongPaths m all weak P Q) s
-unfolds m on all weak P Q d s lt = (
+pub along_unfolds : (m : Structure) → GoesOn m → (all weak : Bool) (P Q : ℕ → Type 0) → AreDecided m P Q → (s : ℕ) → s < length m.states → AlongPaths m all weak P Q s ↔ Stage m all P Q (AlongPaths m all weak P Q) s
+along_unfolds m on all weak P Q d s lt = (
   λ h. stage_map m all P Q (InRounds m all weak P Q) (AlongPaths m all weak P Q) s (λ t step. along_from m on all weak P Q t (reaches_within m on s t step)) (stage_out m on all weak P Q d s lt (along_to m on all weak P Q d s lt h)),
   λ h. along_from m on all weak P Q s lt (stage_in m on all weak P Q d s lt (stage_map m all P Q (AlongPaths m all weak P Q) (InRounds m all weak P Q) s (λ t step. along_to m on all weak P Q d t (reaches_within m on s t step)) h)),
 )
@@ -49,5 +49,5 @@ pub record IsClosedLabel (m : Structure) (all : Bool) (P Q X : ℕ → Type 0) :
   pub sound : (s : ℕ) → s < length m.states → X s → AlongPaths m all false P Q s
   pub closed : (s : ℕ) → s < length m.states → Stage m all P Q X s → X s
 
-pub labelled : (m : Structure) → GoesOn m → (all : Bool) (P Q X : ℕ → Type 0) → AreDecided m P Q → IsClosedLabel m all P Q X → (s : ℕ) → s < length m.states → X s ↔ AlongPaths m all false P Q s
-labelled m on all P Q X d l s lt = (l.sound s lt, λ h. let r = along_to m on all false P Q d s lt h in least m on all P Q X l.closed r.0 s lt r.1)
+pub label_along : (m : Structure) → GoesOn m → (all : Bool) (P Q X : ℕ → Type 0) → AreDecided m P Q → IsClosedLabel m all P Q X → (s : ℕ) → s < length m.states → X s ↔ AlongPaths m all false P Q s
+label_along m on all P Q X d l s lt = (l.sound s lt, λ h. let r = along_to m on all false P Q d s lt h in round_least m on all P Q X l.closed r.0 s lt r.1)

@@ -7,7 +7,7 @@ use Rattle.ctl_form.specs.Row.{IsAt, IsRowOf}
 use Rattle.ctl_form.specs.Truth.{After, AlongPaths}
 use Rattle.ctl_form.proofs.Decided.{Decided, decided_iff}
 use Rattle.ctl_form.proofs.Negation.{after_same}
-use Rattle.ctl_form.proofs.Opposed.{AreOpposed, opposed, same_along}
+use Rattle.ctl_form.proofs.Opposed.{AreOpposed, along_opposed, same_along}
 use Rattle.ctl_form.proofs.Rows.{IsRowOf-map, decided_at}
 use Rattle.ctl_form.proofs.SpreadSteps.{rows_decided}
 use Rattle.ctl_form.proofs.TruthDecided.{decided_along}
@@ -24,7 +24,7 @@ IsRowOf-weak m on all p q not_p not_q neither fails row p_long q_long np nq both
 
     at_each : (s : ℕ) → s < length m.states → IsAt row s ↔ AlongPaths m all true (IsAt p) (IsAt q) s
     at_each s lt =
-        let o = opposed m on all true (IsAt p) (IsAt q) (IsAt not_q) (IsAt neither) (rows_decided m p q) are_opposed s lt in
+        let o = along_opposed m on all true (IsAt p) (IsAt q) (IsAt not_q) (IsAt neither) (rows_decided m p q) are_opposed s lt in
         let fs = f.exact s lt in
         let hs = h.exact s (omega (arith, lt, f.long)) in
         (λ y. elim (decided_along m on all true (IsAt p) (IsAt q) (rows_decided m p q) s lt) [ inl holds ↦ holds | inr none ↦ absurd (hs.0 y (fs.1 (o.1 none))) ], λ holds. hs.1 (λ x. o.0 (fs.0 x) holds))

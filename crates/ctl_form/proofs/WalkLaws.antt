@@ -38,8 +38,8 @@ pub known_or_new : (f : Form) (forms : List Form) → (Contains forms f × (note
 unfolding noted
 known_or_new f forms = by_test (has_form forms f) (Contains forms f) forms (forms ++ f ∷ []) (is_member-Decides same_form_decides forms f)
 
-carried : (l m : List Form) (x : Form) → l ≡ m → Contains m x → Contains l x
-carried l m x e h = subst (λ k. Contains k x) (sym e) h
+contains_as : (l m : List Form) (x : Form) → l ≡ m → Contains m x → Contains l x
+contains_as l m x e h = subst (λ k. Contains k x) (sym e) h
 
 pub noted_known : (f : Form) (forms : List Form) → Contains forms f → noted f forms ≡ forms
 noted_known f forms h = elim (known_or_new f forms) [ inl k ↦ k.1 | inr k ↦ absurd (k.0 h) ]
@@ -48,10 +48,10 @@ pub noted_new : (f : Form) (forms : List Form) → (Contains forms f → ⊥) �
 noted_new f forms none = elim (known_or_new f forms) [ inl k ↦ absurd (none k.0) | inr k ↦ k.2 ]
 
 pub within_noted : (f : Form) (forms : List Form) → AreWithin forms (noted f forms)
-within_noted f forms x h = elim (known_or_new f forms) [ inl k ↦ carried (noted f forms) forms x k.1 h | inr k ↦ carried (noted f forms) (forms ++ f ∷ []) x k.2 (Contains-append_left forms (f ∷ []) x h) ]
+within_noted f forms x h = elim (known_or_new f forms) [ inl k ↦ contains_as (noted f forms) forms x k.1 h | inr k ↦ contains_as (noted f forms) (forms ++ f ∷ []) x k.2 (Contains-append_left forms (f ∷ []) x h) ]
 
 pub has_noted : (f : Form) (forms : List Form) → Contains (noted f forms) f
-has_noted f forms = elim (known_or_new f forms) [ inl k ↦ carried (noted f forms) forms f k.1 k.0 | inr k ↦ carried (noted f forms) (forms ++ f ∷ []) f k.2 (Contains-push forms f) ]
+has_noted f forms = elim (known_or_new f forms) [ inl k ↦ contains_as (noted f forms) forms f k.1 k.0 | inr k ↦ contains_as (noted f forms) (forms ++ f ∷ []) f k.2 (Contains-push forms f) ]
 
 pub noted_cases : (f : Form) (forms : List Form) (x : Form) → Contains (noted f forms) x → Contains forms x ⊎ (f ≡ x)
 noted_cases f forms x h = elim (known_or_new f forms) [ inl k ↦ inl (subst (λ l. Contains l x) k.1 h) | inr k ↦ Contains-push_cases forms f x (subst (λ l. Contains l x) k.2 h) ]

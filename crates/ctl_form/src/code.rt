@@ -20,22 +20,28 @@ fn push_code(f: &Formula, code: &mut Vec<u8>) -> Result<(), Memory>
     ensures { OnOk result (code.new.items ≡ code.old.items ++ numbers (form_of f.now)) }
 {
     match f {
-        Formula::Yes => code.push(0)?,
-        Formula::No => code.push(1)?,
-        Formula::At { side, local } => code.extend_from_slice(&[2, side_of(*side), *local])?,
-        Formula::Not(f) => push_one(&[3], f, code)?,
-        Formula::And(f, g) => push_both(&[4], f, g, code)?,
-        Formula::Or(f, g) => push_both(&[5], f, g, code)?,
-        Formula::Implies(f, g) => push_both(&[6], f, g, code)?,
+        Formula::Yes => push_bytes(&[0], code),
+        Formula::No => push_bytes(&[1], code),
+        Formula::At { side, local } => push_bytes(&[2, side_of(*side), *local], code),
+        Formula::Not(f) => push_one(&[3], f, code),
+        Formula::And(f, g) => push_both(&[4], f, g, code),
+        Formula::Or(f, g) => push_both(&[5], f, g, code),
+        Formula::Implies(f, g) => push_both(&[6], f, g, code),
         Formula::Next { all, side, f } => {
-            push_one(&[7, bit_of(*all), any_side_of(*side)], f, code)?
+            push_one(&[7, bit_of(*all), any_side_of(*side)], f, code)
         }
-        Formula::Always { all, f } => push_one(&[8, bit_of(*all)], f, code)?,
-        Formula::Sometime { all, f } => push_one(&[9, bit_of(*all)], f, code)?,
+        Formula::Always { all, f } => push_one(&[8, bit_of(*all)], f, code),
+        Formula::Sometime { all, f } => push_one(&[9, bit_of(*all)], f, code),
         Formula::Until { all, weak, f, g } => {
-            push_both(&[10, bit_of(*all), bit_of(*weak)], f, g, code)?
+            push_both(&[10, bit_of(*all), bit_of(*weak)], f, g, code)
         }
     }
+}
+
+fn push_bytes(bytes: &[u8], code: &mut Vec<u8>) -> Result<(), Memory>
+    ensures { OnOk result (code.new.items ≡ code.old.items ++ bytes.now) }
+{
+    code.extend_from_slice(bytes)?;
     Ok(())
 }
 

@@ -10,7 +10,6 @@ ghost use Rattle.ctl_form.specs.Walk.{walk_all};
 
 use crate::members::Members;
 use crate::{Formula, NormalFault, Part};
-use pair_structure::Side;
 use std::alloc::Global;
 use std::marker::Model;
 
@@ -84,10 +83,7 @@ fn opened(alloc: Global) -> Result<Members, NormalFault>
     ensures { MatchResult result (λ members. forms_of members ≡ opening) (IsFaultOf opening) }
 {
     let mut members = Members::new(alloc);
-    let truth = members.note(Part::Yes)?;
-    let _no = members.note(Part::No)?;
-    let _a = members.note_next(false, Side::A, truth)?;
-    let _b = members.note_next(false, Side::B, truth)?;
+    members.note_opening()?;
     Ok(members)
 }
 

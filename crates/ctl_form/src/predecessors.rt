@@ -1,4 +1,4 @@
-ghost use Rattle.std.specs.Prelude.{◌≡◌, ◌<◌, ◌≤◌, ℕ, length, IfOk, OnOk, slice_index};
+ghost use Rattle.std.specs.Prelude.{◌≡◌, ◌<◌, ◌++◌, ◌∷◌, [], ℕ, length, IfOk, OnOk, slice_index};
 ghost use Rattle.pair_structure.specs.StructureFault.{move_at};
 ghost use Rattle.ctl_form.specs.inside.Predecessors.{EndsAt, AreLinked, AddsSources, ArePredecessors};
 
@@ -28,20 +28,36 @@ impl Predecessors {
         let states = m.states().len();
         let moves = m.moves();
         let links = linked(alloc, states, moves)?;
-        let mut begins = Vec::with_capacity(alloc, states + 1)?;
-        begins.push(0usize)?;
-        let mut sources = Vec::with_capacity(alloc, moves.len())?;
+        let mut made = Predecessors::none(alloc, states + 1, moves.len())?;
         for state in 0..states {
-            push_sources(
-                moves,
-                &links.before,
-                state as u64,
-                links.ends[state],
-                &mut sources,
-            )?;
-            begins.push(sources.len())?;
+            made.push_state(moves, &links, state)?;
         }
+        Ok(made)
+    }
+
+    /// The part of no state yet, with room for so many of each.
+    fn none(alloc: Global, begins: usize, sources: usize) -> Result<Predecessors, Memory>
+        ensures { IfOk result (λ p. (p.begins.items ≡ 0 ∷ []) × (p.sources.items ≡ [])) }
+    {
+        let mut begins = Vec::with_capacity(alloc, begins)?;
+        begins.push(0usize)?;
+        let sources = Vec::with_capacity(alloc, sources)?;
         Ok(Predecessors { begins, sources })
+    }
+
+    /// The part of one more state.
+    fn push_state(&mut self, moves: &[Move], links: &Links, state: usize) -> Result<(), Memory>
+        requires state { state < length links.now.ends.items }
+        requires long { length links.now.before.items ≡ length moves.now }
+        requires linked { (j : ℕ) → j < length moves.now → EndsAt moves.now (move_at moves.now j).to (slice_index links.now.before.items j) j }
+        requires ends { EndsAt moves.now state (slice_index links.now.ends.items state) (length moves.now) }
+        ensures sources { OnOk result (AddsSources moves.now state 0 self.old.sources.items self.new.sources.items) }
+        ensures begins { OnOk result (self.new.begins.items ≡ self.old.begins.items ++ length self.new.sources.items ∷ []) }
+    {
+        let end = links.ends[state];
+        push_sources(moves, &links.before, state as u64, end, &mut self.sources)?;
+        self.begins.push(self.sources.len())?;
+        Ok(())
     }
 }
 

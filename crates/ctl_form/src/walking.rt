@@ -1,12 +1,11 @@
-ghost use Rattle.std.specs.Prelude.{◌≡◌, ◌<◌, length, true, false, Some};
+ghost use Rattle.std.specs.Prelude.{◌≡◌};
 ghost use Rattle.ctl_form.specs.Closure.{IsGrown};
-ghost use Rattle.ctl_form.specs.Form.{form_of, next, until};
-ghost use Rattle.ctl_form.specs.Members.{form_at, forms_of};
-ghost use Rattle.ctl_form.specs.MemberTable.{Numbers};
+ghost use Rattle.ctl_form.specs.Form.{form_of, until};
+ghost use Rattle.ctl_form.specs.Members.{forms_of};
 ghost use Rattle.ctl_form.specs.Normal.{normal};
-ghost use Rattle.ctl_form.specs.Walk.{noted, noted_until};
-ghost use Rattle.ctl_form.specs.inside.Walking.{turned, constant_part, pair_part, pair, nexts, ever, once, lasting, release, Walks};
+ghost use Rattle.ctl_form.specs.inside.Walking.{turned, constant_part, joined, nexts, lasting, Walks};
 
+use crate::joint::{Joint, pair_of};
 use crate::members::Members;
 use crate::{Formula, NormalFault, Part};
 use pair_structure::Side;
@@ -28,75 +27,70 @@ impl Members {
                 is,
             }),
             Formula::Not(f) => self.root_of(f, !is),
-            Formula::And(f, g) => self.root_of_pair(is, f, is, g, is),
-            Formula::Or(f, g) => self.root_of_pair(!is, f, is, g, is),
-            Formula::Implies(f, g) => self.root_of_pair(!is, f, !is, g, is),
-            Formula::Next {
-                all,
-                side: Some(side),
-                f,
-            } => self.root_of_next(turned_of(is, *all), *side, f, is),
-            Formula::Next { all, side: None, f } => self.root_of_nexts(turned_of(is, *all), f, is),
+            Formula::And(f, g) => self.root_of_two(pair_of(is), f, is, g, is),
+            Formula::Or(f, g) => self.root_of_two(pair_of(!is), f, is, g, is),
+            Formula::Implies(f, g) => self.root_of_two(pair_of(!is), f, !is, g, is),
+            Formula::Next { all, side, f } => self.root_of_next(turned_of(is, *all), *side, f, is),
             Formula::Always { all, f } => self.root_of_lasting(is, turned_of(is, *all), f, is),
             Formula::Sometime { all, f } => self.root_of_lasting(!is, turned_of(is, *all), f, is),
-            Formula::Until { all, weak, f, g } => {
-                if is {
-                    self.root_of_until(*all, *weak, f, g)
-                } else {
-                    self.root_of_release(!*all, !*weak, f, g)
-                }
-            }
+            Formula::Until { all, weak, f, g } => self.root_of_until(*all, *weak, f, g, is),
         }
     }
 
-    /// Both of the formulas, or one of them; each itself or its negation.
     #[cycle(walking)]
-    fn root_of_pair(
+    fn root_of_until(
         &mut self,
-        both: bool,
+        all: bool,
+        weak: bool,
+        f: &Formula,
+        g: &Formula,
+        is: bool,
+    ) -> Result<u32, NormalFault>
+        requires { IsGrown (forms_of self.old) }
+        ensures { Walks (normal is (until all weak (form_of f.now) (form_of g.now))) self.old self.new result }
+    {
+        if is {
+            self.root_of_two(Joint::Until { all, weak }, f, true, g, true)
+        } else {
+            let (all, weak) = (!all, !weak);
+            self.root_of_two(Joint::Release { all, weak }, g, false, f, false)
+        }
+    }
+
+    /// Two formulas, walked one after the other and then joined; each itself or its negation.
+    #[cycle(walking)]
+    fn root_of_two(
+        &mut self,
+        joint: Joint,
         f: &Formula,
         f_is: bool,
         g: &Formula,
         g_is: bool,
     ) -> Result<u32, NormalFault>
         requires { IsGrown (forms_of self.old) }
-        ensures { Walks (pair both (normal f_is (form_of f.now)) (normal g_is (form_of g.now))) self.old self.new result }
+        ensures { Walks (joined joint (normal f_is (form_of f.now)) (normal g_is (form_of g.now))) self.old self.new result }
     {
         let first = self.root_of(f, f_is)?;
         let second = self.root_of(g, g_is)?;
-        let n = self.note(pair_of(both, first, second))?;
-        Ok(n)
+        self.note_joined(joint, first, second)
     }
 
     #[cycle(walking)]
     fn root_of_next(
         &mut self,
         all: bool,
-        side: Side,
+        side: Option<Side>,
         f: &Formula,
         is: bool,
     ) -> Result<u32, NormalFault>
         requires { IsGrown (forms_of self.old) }
-        ensures { Walks (next all (Some side) (normal is (form_of f.now))) self.old self.new result }
+        ensures { Walks (nexts all side (normal is (form_of f.now))) self.old self.new result }
     {
         let first = self.root_of(f, is)?;
-        let n = self.note_next(all, side, first)?;
-        Ok(n)
+        self.note_nexts(all, side, first)
     }
 
-    /// The next-times of both sides, both of them or one.
-    #[cycle(walking)]
-    fn root_of_nexts(&mut self, all: bool, f: &Formula, is: bool) -> Result<u32, NormalFault>
-        requires { IsGrown (forms_of self.old) }
-        ensures { Walks (nexts all (normal is (form_of f.now))) self.old self.new result }
-    {
-        let first = self.root_of(f, is)?;
-        let a = self.note_next(all, Side::A, first)?;
-        let b = self.note_next(all, Side::B, first)?;
-        let n = self.note(pair_of(all, a, b))?;
-        Ok(n)
-    }
-
+    /// For ever: a weak until of false. Or at some time: an until whose first part is true.
     #[cycle(walking)]
     fn root_of_lasting(
         &mut self,
@@ -109,95 +103,16 @@ impl Members {
         ensures { Walks (lasting ever all (normal is (form_of f.now))) self.old self.new result }
     {
         if ever {
-            self.root_of_ever(all, f, is)
+            self.root_of_two(Joint::Until { all, weak: true }, f, is, &Formula::No, true)
         } else {
-            self.root_of_once(all, f, is)
+            self.root_of_two(
+                Joint::Until { all, weak: false },
+                &Formula::Yes,
+                true,
+                f,
+                is,
+            )
         }
-    }
-
-    /// A weak until of false.
-    #[cycle(walking)]
-    fn root_of_ever(&mut self, all: bool, f: &Formula, is: bool) -> Result<u32, NormalFault>
-        requires { IsGrown (forms_of self.old) }
-        ensures { Walks (ever all (normal is (form_of f.now))) self.old self.new result }
-    {
-        let first = self.root_of(f, is)?;
-        let second = self.note(Part::No)?;
-        let n = self.note_until(all, true, first, second)?;
-        Ok(n)
-    }
-
-    /// An until whose first part is true.
-    #[cycle(walking)]
-    fn root_of_once(&mut self, all: bool, f: &Formula, is: bool) -> Result<u32, NormalFault>
-        requires { IsGrown (forms_of self.old) }
-        ensures { Walks (once all (normal is (form_of f.now))) self.old self.new result }
-    {
-        let first = self.note(Part::Yes)?;
-        let second = self.root_of(f, is)?;
-        let n = self.note_until(all, false, first, second)?;
-        Ok(n)
-    }
-
-    #[cycle(walking)]
-    fn root_of_until(
-        &mut self,
-        all: bool,
-        weak: bool,
-        f: &Formula,
-        g: &Formula,
-    ) -> Result<u32, NormalFault>
-        requires { IsGrown (forms_of self.old) }
-        ensures { Walks (until all weak (normal true (form_of f.now)) (normal true (form_of g.now))) self.old self.new result }
-    {
-        let first = self.root_of(f, true)?;
-        let second = self.root_of(g, true)?;
-        let n = self.note_until(all, weak, first, second)?;
-        Ok(n)
-    }
-
-    /// `!g` until both `!f` and `!g`: what the negation of an until comes to.
-    #[cycle(walking)]
-    fn root_of_release(
-        &mut self,
-        all: bool,
-        weak: bool,
-        f: &Formula,
-        g: &Formula,
-    ) -> Result<u32, NormalFault>
-        requires { IsGrown (forms_of self.old) }
-        ensures { Walks (release all weak (normal false (form_of f.now)) (normal false (form_of g.now))) self.old self.new result }
-    {
-        let second = self.root_of(g, false)?;
-        let first = self.root_of(f, false)?;
-        let both = self.note(Part::Both {
-            f: first,
-            g: second,
-        })?;
-        let n = self.note_until(all, weak, second, both)?;
-        Ok(n)
-    }
-
-    /// An until, and after it its next-times.
-    fn note_until(&mut self, all: bool, weak: bool, f: u32, g: u32) -> Result<u32, NormalFault>
-        requires f { f < length self.old }
-        requires g { g < length self.old }
-        ensures { let forms = forms_of self.old in let u = until all weak (form_at forms f) (form_at forms g) in
-            Numbers (noted_until all u forms) u self.new result }
-    {
-        let u = self.note(Part::Until { all, weak, f, g })?;
-        let a = self.note_next(all, Side::A, u)?;
-        let b = self.note_next(all, Side::B, u)?;
-        let _after = (a, b);
-        Ok(u)
-    }
-
-    pub(crate) fn note_next(&mut self, all: bool, side: Side, f: u32) -> Result<u32, NormalFault>
-        requires { f < length self.old }
-        ensures { let forms = forms_of self.old in let next_form = next all (Some side) (form_at forms f) in
-            Numbers (noted next_form forms) next_form self.new result }
-    {
-        self.note(Part::Next { all, side, f })
     }
 }
 
@@ -212,14 +127,4 @@ fn constant_of(is: bool) -> Part
     ensures { result ≡ constant_part is }
 {
     if is { Part::Yes } else { Part::No }
-}
-
-fn pair_of(is: bool, f: u32, g: u32) -> Part
-    ensures { result ≡ pair_part is f g }
-{
-    if is {
-        Part::Both { f, g }
-    } else {
-        Part::Either { f, g }
-    }
 }

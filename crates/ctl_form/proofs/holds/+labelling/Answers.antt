@@ -4,26 +4,11 @@ use Rattle.ctl_form.specs.Row.{IsTruthOf}
 use Rattle.ctl_form.proofs.Known.{AreKnown-found, AreKnown-kept}
 use Rattle.ctl_form.proofs.holds.«+labelling».Goals as goal
 
-pub labelled-returns-in_ok-p-in-Next-clause-truth : goal.labelled-returns-in_ok-p-in-Next-clause-truth
-labelled-returns-in_ok-p-in-Next-clause-truth t c =
-    let p = subst (λ f. IsTruthOf c.args.m.now (form_of f) c.in_ok-p-in-Next.p) c.deref-in-Next.ensures c.in_ok-p-in-Next.ensures.truth in
-    rw c.in-Next.is (c.next_row.ensures (form_of c.in-Next.f.value) p)
+pub row_of_one-returns-clause-truth : goal.row_of_one-returns-clause-truth
+row_of_one-returns-clause-truth t c = c.one_row.ensures (form_of c.args.f.now) c.in_ok-p.ensures.truth
 
-pub labelled-returns-in_ok-p-in-Always-clause-truth : goal.labelled-returns-in_ok-p-in-Always-clause-truth
-labelled-returns-in_ok-p-in-Always-clause-truth t c =
-    let p = subst (λ f. IsTruthOf c.args.m.now (form_of f) c.in_ok-p-in-Always.p) c.deref-in-Always.ensures c.in_ok-p-in-Always.ensures.truth in
-    rw c.in-Always.is (c.always_row.ensures (form_of c.in-Always.f.value) p)
-
-pub labelled-returns-in_ok-p-in-Sometime-clause-truth : goal.labelled-returns-in_ok-p-in-Sometime-clause-truth
-labelled-returns-in_ok-p-in-Sometime-clause-truth t c =
-    let p = subst (λ f. IsTruthOf c.args.m.now (form_of f) c.in_ok-p-in-Sometime.p) c.deref-in-Sometime.ensures c.in_ok-p-in-Sometime.ensures.truth in
-    rw c.in-Sometime.is (c.sometime_row.ensures (form_of c.in-Sometime.f.value) p)
-
-pub labelled-returns-in_ok-rows-in-Until-clause-truth : goal.labelled-returns-in_ok-rows-in-Until-clause-truth
-labelled-returns-in_ok-rows-in-Until-clause-truth t c =
-    let p = subst (λ f. IsTruthOf c.args.m.now (form_of f) c.in_ok-rows-in-Until.rows.0) c.deref-in-Until.ensures c.in_ok-rows-in-Until.ensures.first in
-    let q = subst (λ g. IsTruthOf c.args.m.now (form_of g) c.in_ok-rows-in-Until.rows.1) c.deref-in-Until-2.ensures c.in_ok-rows-in-Until.ensures.second in
-    rw c.in-Until.is (c.along_row.ensures (form_of c.in-Until.f.value) (form_of c.in-Until.g.value) p q)
+pub row_of_two-returns-clause-truth : goal.row_of_two-returns-clause-truth
+row_of_two-returns-clause-truth t c = c.two_rows.ensures (form_of c.args.f.now) (form_of c.args.g.now) c.in_ok-p.ensures.truth c.in_ok-q.ensures.truth
 
 pub truth_row-returns-in-Some-clause-truth : goal.truth_row-returns-in-Some-clause-truth
 truth_row-returns-in-Some-clause-truth t c =

@@ -9,5 +9,8 @@ decreases-truth_row l = 3 * operators (form_of l.f.now) + 1
 abbrev pub decreases-labelled : goal.decreases-labelled
 decreases-labelled l = 3 * operators (form_of l.f.now)
 
-abbrev pub decreases-both_rows : goal.decreases-both_rows
-decreases-both_rows l = 3 * (operators (form_of l.f.now) + operators (form_of l.g.now)) + 2
+abbrev pub decreases-row_of_one : goal.decreases-row_of_one
+decreases-row_of_one l = 3 * operators (form_of l.f.now) + 2
+
+abbrev pub decreases-row_of_two : goal.decreases-row_of_two
+decreases-row_of_two l = 3 * (operators (form_of l.f.now) + operators (form_of l.g.now)) + 2

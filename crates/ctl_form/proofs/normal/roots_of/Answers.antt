@@ -6,8 +6,7 @@ use Rattle.ctl_form.specs.Normal.{normal}
 use Rattle.ctl_form.specs.Numbered.{normals}
 use Rattle.ctl_form.specs.inside.Roots.{AreRoots}
 use Rattle.ctl_form.specs.Walk.{walk_all}
-use Rattle.ctl_form.proofs.MemberWalkLaws.{grown_after}
-use Rattle.ctl_form.proofs.OpeningLaws.{err_as}
+use Rattle.ctl_form.proofs.MemberWalkLaws.{grown_after, result_from_err}
 use Rattle.ctl_form.proofs.RootLaws.{roots_fail, roots_step}
 use Rattle.ctl_form.proofs.normal.roots_of.Goals as goal
 
@@ -15,7 +14,7 @@ pub returns-in_err-root : goal.returns-in_err-root
 returns-in_err-root c =
     let old = c.args.members.now in
     let forms : List Form = normals (map form_of c.args.conjuncts.now) in
-    err_as (λ (v : Vec ℕ Global). AreRoots forms old c.root_of.new.self v.items) (IsFaultOf (walk_all forms (forms_of old))) c.in_err-root.field-0.0 c.from_residual-in_err-root.result c.from_residual-in_err-root.ensures.1
+    result_from_err (λ (v : Vec ℕ Global). AreRoots forms old c.root_of.new.self v.items) (IsFaultOf (walk_all forms (forms_of old))) c.in_err-root.field-0.0 c.from_residual-in_err-root.result c.from_residual-in_err-root.ensures.1
     (roots_fail c.args.conjuncts.now c.loop-conjunct.conjunct-index c.conjunct-item.result old c.loop-conjunct.members c.loop-conjunct.roots.items c.in_err-root.field-0.0 c.loop-conjunct-test.true c.conjunct-item.is c.loop-conjunct.invariant.roots c.in_err-root.ensures)
 
 pub loop-conjunct-preserved : goal.loop-conjunct-preserved

@@ -4,18 +4,18 @@ use Rattle.ctl_form.specs.Members.{forms_of}
 use Rattle.ctl_form.specs.NormalParts.{NormalParts}
 use Rattle.ctl_form.specs.Numbered.{IsNormalOf, IsRefusalOf}
 use Rattle.ctl_form.proofs.NormalLaws.{normal_of, refusal_of, opening_refusal}
-use Rattle.ctl_form.proofs.OpeningLaws.{err_as}
+use Rattle.ctl_form.proofs.MemberWalkLaws.{result_from_err}
 use Rattle.ctl_form.proofs.normal.Normal.of.Goals as goal
 
 pub returns-in_err-members : goal.returns-in_err-members
 returns-in_err-members c =
     let conjuncts : List Form = map form_of c.args.conjuncts.now in
-    err_as (IsNormalOf conjuncts) (IsRefusalOf conjuncts) c.in_err-members.field-0.0 c.from_residual.result c.from_residual.ensures.1 (opening_refusal conjuncts c.in_err-members.field-0.0 c.in_err-members.ensures)
+    result_from_err (IsNormalOf conjuncts) (IsRefusalOf conjuncts) c.in_err-members.field-0.0 c.from_residual.result c.from_residual.ensures.1 (opening_refusal conjuncts c.in_err-members.field-0.0 c.in_err-members.ensures)
 
 pub returns-in_err-roots : goal.returns-in_err-roots
 returns-in_err-roots c =
     let conjuncts : List Form = map form_of c.args.conjuncts.now in
-    err_as (IsNormalOf conjuncts) (IsRefusalOf conjuncts) c.in_err-roots.field-0.0 c.from_residual-in_err-roots.result c.from_residual-in_err-roots.ensures.1
+    result_from_err (IsNormalOf conjuncts) (IsRefusalOf conjuncts) c.in_err-roots.field-0.0 c.from_residual-in_err-roots.result c.from_residual-in_err-roots.ensures.1
     (refusal_of conjuncts (forms_of c.in_ok-members.members) c.in_err-roots.field-0.0 c.in_ok-members.ensures c.in_err-roots.ensures)
 
 pub returns : goal.returns

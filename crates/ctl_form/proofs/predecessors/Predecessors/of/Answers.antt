@@ -9,11 +9,10 @@ linked-requires c = rw (c.moves-moves.ensures.moves, c.states-states.ensures.sta
 
 pub loop-state-preserved : goal.loop-state-preserved
 loop-state-preserved c =
-    let long : c.len.result ≡ length c.push_sources.new.sources.items = omega (arith, c.len.ensures) in
-    rw (c.in_ok-push-2.ensures.items, long) (ArePartsOf-push _ _ _ _ _ c.loop-state.invariant (subst (λ moves. AddsSources moves c.loop-state.state 0 c.loop-state.sources.items c.push_sources.new.sources.items) c.moves-moves.ensures.moves c.in_ok-push_sources.ensures))
+    rw c.in_ok-push_state.ensures.begins (ArePartsOf-push _ _ _ _ _ c.loop-state.invariant (subst (λ moves. AddsSources moves c.loop-state.state 0 c.loop-state.made.sources.items c.push_state.new.self.sources.items) c.moves-moves.ensures.moves c.in_ok-push_state.ensures.sources))
 
 pub returns : goal.returns
 returns c =
     let states = ap length c.states-states.ensures.states in
     let all : c.loop-state.state ≡ length c.args.m.now.states = omega (arith, states, c.loop-state-test.false, c.loop-state.auto.state-end) in
-    subst (λ n. ArePartsOf c.args.m.now n c.loop-state.begins.items c.loop-state.sources.items) all c.loop-state.invariant
+    subst (λ n. ArePartsOf c.args.m.now n c.loop-state.made.begins.items c.loop-state.made.sources.items) all c.loop-state.invariant
