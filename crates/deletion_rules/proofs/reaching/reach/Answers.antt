@@ -1,5 +1,4 @@
 use Rattle.std.proofs.Common.{ℕ, [], List, Contains, subst, arith, slice_index_or}
-use Rattle.std.proofs.lemmas.Grind.{get_or_default_zero}
 use Rattle.deletion_rules.proofs.ReachingLaws.{parents_begin, parents_end, parents_step}
 use Rattle.deletion_rules.proofs.reaching.reach.Goals as goal
 

@@ -1,6 +1,5 @@
 use Rattle.std.proofs.Common.{ℕ, List, [], Contains, subst, slice_index_or}
 use Rattle.deletion_rules.proofs.ThinningLaws.{loses_then}
-use Rattle.deletion_rules.proofs.Within.{Contains-at}
 use Rattle.deletion_rules.proofs.thinning.lose_parents.Goals as goal
 
 pub lose_each-requires-clause-parents : goal.lose_each-requires-clause-parents

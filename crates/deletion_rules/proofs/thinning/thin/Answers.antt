@@ -1,4 +1,4 @@
-use Rattle.std.proofs.Common.{ℕ, List, [], Contains, subst, arith}
+use Rattle.std.proofs.Common.{ℕ, List, [], Contains, subst}
 use Rattle.deletion_rules.proofs.ThinningLaws.{lost_after, thinned_kept, thinned_none, thinned_then}
 use Rattle.deletion_rules.proofs.thinning.thin.Goals as goal
 
