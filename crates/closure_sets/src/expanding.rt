@@ -48,16 +48,13 @@ fn expand(
         return Ok(());
     }
     if left == 0 {
-        finish(c, found, row)?;
-        return Ok(());
+        return finish(c, found, row);
     }
     let Some(member) = row.lowest_open(&treated, c.count()) else {
-        finish(c, found, row)?;
-        return Ok(());
+        return finish(c, found, row);
     };
     let ways = ways_of(c, marks, &row, member);
-    expand_each(c, marks, found, ways, treated.with(member), left - 1)?;
-    Ok(())
+    expand_each(c, marks, found, ways, treated.with(member), left - 1)
 }
 
 /// Expands the rows in which a member is treated.
@@ -75,8 +72,7 @@ fn expand_each(
 {
     expand(c, marks, found, ways.first, treated, left)?;
     expand_way(c, marks, found, ways.second, treated, left)?;
-    expand_way(c, marks, found, ways.third, treated, left)?;
-    Ok(())
+    expand_way(c, marks, found, ways.third, treated, left)
 }
 
 /// Expands a row, if there is one.
@@ -95,8 +91,7 @@ fn expand_way(
     let Some(row) = way else {
         return Ok(());
     };
-    expand(c, marks, found, row, treated, left)?;
-    Ok(())
+    expand(c, marks, found, row, treated, left)
 }
 
 /// Finds a row whose members are all treated: it asks for a move of some side.
