@@ -23,7 +23,7 @@ pub use limits::{MAX_ARCS, MAX_LOCALS};
 pub use lists::Lists;
 pub use memory::Memory;
 pub use move_order::arrange;
-pub use name::{Name, NameFault, is_name};
+pub use name::{Name, NameFault, is_name, push_name};
 pub use role::Role;
 pub use role_fault::RoleFault;
 pub use side::{LocalArc, Move, Side};

@@ -1,11 +1,11 @@
 ghost use Rattle.std.specs.Prelude.{◌≡◌, ◌++◌, length, OnErr, OnOk};
 ghost use Rattle.std.specs.List.{flat_map};
 ghost use Rattle.skeleton_extract.specs.Commands.{HasLists};
-ghost use Rattle.skeleton_extract.specs.SkeletonText.{arc_line, arc_text, arcs_text, command_line, name_at, skeleton_text};
+ghost use Rattle.skeleton_extract.specs.SkeletonText.{arc_line, arc_text, arcs_text, command_line, skeleton_text};
 
 use crate::{Command, Skeleton};
 use itoa::Buffer;
-use pair_structure::{Lists, LocalArc, Memory, Name, Role, Side};
+use pair_structure::{Lists, LocalArc, Memory, Name, Role, Side, push_name};
 use std::alloc::{AllocError, Global};
 
 /// Appends the text of the skeletons of one kind, or nothing. Linear in the text, which is written beside `into` first.
@@ -68,9 +68,9 @@ fn write_arc(own: &[Name], arc: &LocalArc, into: &mut Vec<u8>) -> Result<(), All
     ensures { OnOk result (into.new.items ≡ into.old.items ++ arc_line own.now arc.now) }
 {
     into.extend_from_slice(b"arc ")?;
-    write_local(own, arc.from, into)?;
+    push_name(own, arc.from, into)?;
     into.extend_from_slice(b" ")?;
-    write_local(own, arc.to, into)?;
+    push_name(own, arc.to, into)?;
     into.extend_from_slice(b"\n")?;
     Ok(())
 }
@@ -93,20 +93,11 @@ fn write_command(other: &[Name], command: &Command, into: &mut Vec<u8>) -> Resul
 {
     let mut buffer = Buffer::new();
     into.extend_from_slice(b"command ")?;
-    write_local(other, command.other, into)?;
+    push_name(other, command.other, into)?;
     into.extend_from_slice(b" ")?;
     into.extend_from_slice(buffer.format(command.x).as_bytes())?;
     into.extend_from_slice(b" ")?;
     into.extend_from_slice(buffer.format(command.set).as_bytes())?;
     into.extend_from_slice(b"\n")?;
     Ok(())
-}
-
-fn write_local(names: &[Name], local: u8, into: &mut Vec<u8>) -> Result<(), AllocError>
-    ensures { OnOk result (into.new.items ≡ into.old.items ++ name_at names.now local) }
-{
-    match names.get(local as usize) {
-        Some(name) => into.extend_from_slice(name.as_str().as_bytes()),
-        None => Ok(()),
-    }
 }

@@ -1,6 +1,5 @@
 ghost use Rattle.std.specs.Prelude.{◌≡◌, ◌++◌, ◌≤◌, ◌^◌, OnOk, OnErr, All, length};
 ghost use Rattle.std.specs.List.{flat_map};
-ghost use Rattle.ctl_text.specs.FormulaText.{name_at};
 ghost use Rattle.solution_text.specs.Answers.{HasRoles};
 ghost use Rattle.solution_text.specs.Laws.{IsNumbered};
 ghost use Rattle.solution_text.specs.Text.{IsSolutionText};
@@ -10,7 +9,7 @@ use crate::solution::Solution;
 use ctl_form::PairSpec;
 use ctl_text::Spec;
 use itoa::Buffer;
-use pair_structure::{Memory, Move, Name, PairStructure, Role, Side};
+use pair_structure::{Memory, Move, Name, PairStructure, Role, Side, push_name};
 use std::alloc::{AllocError, Global};
 
 /// Appends the one text of a solution, and nothing where memory runs out. Linear in the text.
@@ -133,9 +132,9 @@ fn write_state(
     ensures { OnOk result (into.new.items ≡ into.old.items ++ state_text a.now b.now label) }
 {
     into.extend_from_slice(b"state ")?;
-    write_local(a, label.0, into)?;
+    push_name(a, label.0, into)?;
     into.extend_from_slice(b" ")?;
-    write_local(b, label.1, into)?;
+    push_name(b, label.1, into)?;
     into.extend_from_slice(b"\n")?;
     Ok(())
 }
@@ -162,14 +161,4 @@ fn write_move(m: &Move, into: &mut Vec<u8>) -> Result<(), AllocError>
     into.extend_from_slice(buffer.format(m.to).as_bytes())?;
     into.extend_from_slice(b"\n")?;
     Ok(())
-}
-
-/// Appends the name of a local state; of none that there is, nothing.
-fn write_local(names: &[Name], local: u8, into: &mut Vec<u8>) -> Result<(), AllocError>
-    ensures { OnOk result (into.new.items ≡ into.old.items ++ name_at names.now local) }
-{
-    match names.get(local as usize) {
-        Some(name) => into.extend_from_slice(name.as_str().as_bytes()),
-        None => Ok(()),
-    }
 }
