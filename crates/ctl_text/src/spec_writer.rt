@@ -9,9 +9,9 @@ ghost use Rattle.ctl_text.specs.Value.{process_at, kind_at};
 
 use crate::spec::Spec;
 use ctl_form::{Formula, PairSpec};
-use formula_text::{write_formula, write_local};
+use formula_text::write_formula;
 use interconnection::{Edge, Process};
-use pair_structure::{LocalArc, Memory, Name, Role};
+use pair_structure::{LocalArc, Memory, Name, Role, push_name};
 use std::alloc::{AllocError, Global};
 
 /// Appends the canonical text of a specification, and nothing where memory runs out. What is appended is read again as an equal specification. Linear in the text.
@@ -103,7 +103,7 @@ fn write_start(names: &[Name], start: u8, into: &mut Vec<u8>) -> Result<(), Allo
     ensures { OnOk result (into.new.items ≡ into.old.items ++ ended (line_for (start_line (name_at names.now start)))) }
 {
     into.extend_from_slice(b"start ")?;
-    write_local(names, start, into)?;
+    push_name(names, start, into)?;
     into.extend_from_slice(b"\n")?;
     Ok(())
 }
@@ -121,9 +121,9 @@ fn write_arc(names: &[Name], arc: LocalArc, into: &mut Vec<u8>) -> Result<(), Al
     ensures { OnOk result (into.new.items ≡ into.old.items ++ ended (arc_text names.now arc)) }
 {
     into.extend_from_slice(b"arc ")?;
-    write_local(names, arc.from, into)?;
+    push_name(names, arc.from, into)?;
     into.extend_from_slice(b" ")?;
-    write_local(names, arc.to, into)?;
+    push_name(names, arc.to, into)?;
     write_free(arc.free, into)?;
     Ok(())
 }

@@ -13,7 +13,7 @@ mod token_sign;
 
 pub use formula_fault::FormulaFault;
 pub use formula_reader::read_formula;
-pub use formula_writer::{write_formula, write_local};
+pub use formula_writer::write_formula;
 pub use laws::{canonical_is_formula, is_spelled_once};
 pub use long::is_long;
 pub use sign::{Leaf, Mark, Prefix, Sign};
