@@ -6,7 +6,7 @@ ghost use Rattle.skeleton_tool.specs.inside.Telling.{IsRefusal};
 
 use conjunctive_compose::{StepAnswer, System, Whole};
 use itoa::Buffer;
-use pair_structure::Name;
+use pair_structure::{Name, push_name};
 use std::alloc::AllocError;
 
 /// Appends the text of a run of so many entries: each process where it is, with how often it fired, and each edge with
@@ -183,10 +183,7 @@ fn write_local(
     requires { process < process_count system.now }
     ensures { OnOk result (into.new.items ≡ into.old.items ++ local_name system.now process local) }
 {
-    match locals_of(system, process).get(local as usize) {
-        Some(name) => write_name(name, into),
-        None => Ok(()),
-    }
+    push_name(locals_of(system, process), local, into)
 }
 
 fn locals_of(system: &System, process: u32) -> &[Name]
