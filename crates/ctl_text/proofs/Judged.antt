@@ -2,7 +2,8 @@
 use Rattle.std.proofs.Common.{ℕ, ◌≡◌, ◌<◌, ◌≤◌, inl, inr, List, [], ◌∷◌, refl, sym, ap, ◌∙◌, arith, subst, true, false}
 use Rattle.text_cause.specs.declared.cause.TextCause.{TextCause}
 use Rattle.text_cause.specs.declared.cause.TextCause.TheVariants.{NotText, BadHead, Long, BadLine, UnknownName, Twice, SelfArc, NoArc, TooMany, ClosureOver, SelfEdge, EdgeTwice, DegreeOver, RoleMismatch, NotAPair, NotRising, Disagree}
-use Rattle.ctl_text.specs.Lines.{words_of, IsText, ArePassed, IsRequire}
+use Rattle.strict_text.specs.Pieces.{loose_words_of}
+use Rattle.ctl_text.specs.Lines.{IsText, ArePassed, IsRequire}
 use Rattle.ctl_text.specs.Item.{Said, head_line, words_for}
 use Rattle.ctl_text.specs.State.{State, Group, before_head, among_roles, in_locals, in_arcs, among_kinds, in_kind, among_processes, among_edges, after_done, MayStand, after}
 use Rattle.text_cause.specs.Cause.{IsLowest, IsFree, cause_no}
@@ -11,6 +12,8 @@ use Rattle.text_cause.specs.declared.line_fault.LineFault.{LineFault}
 use Rattle.text_cause.specs.declared.line_fault.LineFault.TheVariants.{Bad, Memory}
 use Rattle.text_cause.specs.Answers.{IsBadBy}
 use Rattle.ctl_text.specs.inside.Judged.{IsTakenAs, CanSay, misplaced}
+use Rattle.ctl_text.specs.inside.LineCause.{LineBlocks}
+use Rattle.ctl_text.proofs.ByCause.{lowest_by_cause}
 use Rattle.ctl_text.proofs.ItemLaws.{says_once, other_clause}
 
 head_only : (g : Group) (x : Said) → MayStand g x → g ≡ before_head → x ≡ head_line
@@ -79,6 +82,11 @@ blocked_below s words item cause may short least other lt (inr (inr (inr (y, y_m
 pub blocked_lowest : (s : State) (words : List (List ℕ)) (item : Said) (cause : TextCause) → MaySay s words item → (IsLongLine words → ⊥) → IsLowest (Blocks s item) cause → IsLowest (WordsStand s words) cause
 blocked_lowest s words item cause may short least = record { stands = inr (inr (inr (item, may, least.stands))); lowest = blocked_below s words item cause may short least }
 
+-- what stands against what the words say stands against them
+pub said_refused : (s : State) (words : List (List ℕ)) (item : Said) (fault : LineFault) → MaySay s words item → (IsLongLine words → ⊥) → IsBadBy (LineBlocks s item) fault → IsBadBy (WordsStand s words) fault
+said_refused s words item Memory may short bad = bad
+said_refused s words item (Bad cause) may short bad = blocked_lowest s words item cause may short (lowest_by_cause s item cause bad)
+
 free_words : (s : State) (words : List (List ℕ)) (item : Said) → MaySay s words item → (IsLongLine words → ⊥) → IsFree (Blocks s item) → (other : TextCause) → WordsStand s words other → ⊥
 free_words s words item may short free other (inl h) = h.1.other (said_head s words item may h.1.first)
 free_words s words item may short free other (inr (inl h)) = short h.1
@@ -93,34 +101,34 @@ pub taken_as : (s t : State) (words : List (List ℕ)) (item : Said) → MaySay 
 taken_as s t words item may short free next = record { free = words_free s words item may short free; item = item; leaves = record { may = may; next = next } }
 
 -- from the words to the line
-free_line : (s : State) (line : List ℕ) → IsText line → IsFree (WordsStand s (words_of line)) → (cause : TextCause) → Stands s line cause → ⊥
+free_line : (s : State) (line : List ℕ) → IsText line → IsFree (WordsStand s (loose_words_of line)) → (cause : TextCause) → Stands s line cause → ⊥
 free_line s line text free cause (inl h) = h.1 text
 free_line s line text free cause (inr h) = free.free cause h.1
 
-free_passed : (s : State) (line : List ℕ) → IsText line → ArePassed (words_of line) → (cause : TextCause) → Stands s line cause → ⊥
+free_passed : (s : State) (line : List ℕ) → IsText line → ArePassed (loose_words_of line) → (cause : TextCause) → Stands s line cause → ⊥
 free_passed s line text passed cause (inl h) = h.1 text
 free_passed s line text passed cause (inr h) = h.0 passed
 
-pub passed_takes : (s : State) (line : List ℕ) (ws : List (List ℕ)) → ws ≡ words_of line → IsText line → ArePassed ws → Takes s line s
+pub passed_takes : (s : State) (line : List ℕ) (ws : List (List ℕ)) → ws ≡ loose_words_of line → IsText line → ArePassed ws → Takes s line s
 passed_takes s line ws is text passed = let p = subst ArePassed is passed in record { free = record { free = free_passed s line text p }; leaves = inl (p, refl) }
 
-pub taken_takes : (s t : State) (line : List ℕ) (ws us : List (List ℕ)) → ws ≡ words_of line → us ≡ words_of line → IsText line → (ArePassed ws → ⊥) → IsTakenAs s us t → Takes s line t
+pub taken_takes : (s t : State) (line : List ℕ) (ws us : List (List ℕ)) → ws ≡ loose_words_of line → us ≡ loose_words_of line → IsText line → (ArePassed ws → ⊥) → IsTakenAs s us t → Takes s line t
 taken_takes s t line ws us ws_are us_are text not_passed taken =
-    let here : IsTakenAs s (words_of line) t = subst (λ us. IsTakenAs s us t) us_are taken in record {
+    let here : IsTakenAs s (loose_words_of line) t = subst (λ us. IsTakenAs s us t) us_are taken in record {
       free = record { free = free_line s line text here.free };
       leaves = inr (subst (λ ws. ArePassed ws → ⊥) ws_are not_passed, (here.item, here.leaves));
     }
 
-lowest_line : (s : State) (line : List ℕ) (cause : TextCause) → IsText line → IsLowest (WordsStand s (words_of line)) cause → (other : TextCause) → cause_no other < cause_no cause → Stands s line other → ⊥
+lowest_line : (s : State) (line : List ℕ) (cause : TextCause) → IsText line → IsLowest (WordsStand s (loose_words_of line)) cause → (other : TextCause) → cause_no other < cause_no cause → Stands s line other → ⊥
 lowest_line s line cause text least other lt (inl h) = h.1 text
 lowest_line s line cause text least other lt (inr h) = least.lowest other lt h.1
 
-pub words_refused : (s : State) (line : List ℕ) (ws us : List (List ℕ)) (cause : TextCause) → ws ≡ words_of line → us ≡ words_of line → IsText line → (ArePassed ws → ⊥) → IsLowest (WordsStand s us) cause → IsLowest (Stands s line) cause
+pub words_refused : (s : State) (line : List ℕ) (ws us : List (List ℕ)) (cause : TextCause) → ws ≡ loose_words_of line → us ≡ loose_words_of line → IsText line → (ArePassed ws → ⊥) → IsLowest (WordsStand s us) cause → IsLowest (Stands s line) cause
 words_refused s line ws us cause ws_are us_are text not_passed least =
-    let here : IsLowest (WordsStand s (words_of line)) cause = subst (λ us. IsLowest (WordsStand s us) cause) us_are least in
+    let here : IsLowest (WordsStand s (loose_words_of line)) cause = subst (λ us. IsLowest (WordsStand s us) cause) us_are least in
     record { stands = inr (subst (λ ws. ArePassed ws → ⊥) ws_are not_passed, here.stands); lowest = lowest_line s line cause text here }
 
-pub fault_refused : (s : State) (line : List ℕ) (ws us : List (List ℕ)) (fault : LineFault) → ws ≡ words_of line → us ≡ words_of line → IsText line → (ArePassed ws → ⊥) → IsBadBy (WordsStand s us) fault → IsBadBy (Stands s line) fault
+pub fault_refused : (s : State) (line : List ℕ) (ws us : List (List ℕ)) (fault : LineFault) → ws ≡ loose_words_of line → us ≡ loose_words_of line → IsText line → (ArePassed ws → ⊥) → IsBadBy (WordsStand s us) fault → IsBadBy (Stands s line) fault
 fault_refused s line ws us Memory ws_are us_are text not_passed bad = bad
 fault_refused s line ws us (Bad cause) ws_are us_are text not_passed bad = words_refused s line ws us cause ws_are us_are text not_passed bad
 

@@ -11,14 +11,15 @@ pub mod ItemLaws
 pub mod Judged
 pub mod Kept
 pub mod KindsAgain
-pub mod LineLaws
 pub mod LinesAgain
 pub mod LinesTaken
 pub mod NameBytes
 pub mod Named
+pub mod NormalsKept
 pub mod Options
 pub mod Places
 pub mod RolesAgain
+pub mod SaidTaken
 pub mod SpecTexts
 pub mod TextLaws
 pub mod ValueKept

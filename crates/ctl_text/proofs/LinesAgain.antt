@@ -1,5 +1,5 @@
 -- A canonical line is cut into its words again, and a canonical formula into its tokens.
-use Rattle.std.proofs.Common.{ℕ, zero, suc, ◌≡◌, ◌<◌, Bool, true, false, not, ◌&&◌, ◌==◌, nat_le, Option, Some, None, List, [], ◌∷◌, ◌++◌, codes, length, get_or, refl, sym, ap, ◌∙◌, arith, append_assoc}
+use Rattle.std.proofs.Common.{ℕ, zero, suc, ◌≡◌, ◌<◌, Bool, true, false, not, ◌&&◌, ◌==◌, nat_le, Option, Some, None, List, [], ◌∷◌, ◌++◌, codes, length, get_or, map, refl, sym, ap, ◌∙◌, arith, append_assoc}
 use Rattle.std.proofs.lemmas.Bool.Decides.{nat_tests}
 use Rattle.std.proofs.lemmas.List.Folds.{list_all-append}
 use Rattle.std.specs.Char.{is_ascii_alphabetic}
@@ -12,11 +12,14 @@ use Rattle.ctl_form.specs.Form.{Form, truth, falsity, at, neg, both, either, imp
 use Rattle.formula_text.specs.FormulaText.{formula_text, path_letter, side_letters, until_letter}
 use Rattle.formula_text.specs.Canonical.{IsOver}
 use Rattle.ctl_text.specs.Item.{Said, head_line, role_line, local_line, start_line, arc_line, kind_line, require_line, end_line, process_line, edge_line, done_line, words_for, IsSpelled}
-use Rattle.ctl_text.specs.Lines.{lines_of, words_of, before_first, is_text_byte, IsText, ArePassed, IsRequire}
+use Rattle.ctl_text.specs.Lines.{lines_of, is_text_byte, IsText, ArePassed, IsRequire}
 use Rattle.ctl_text.specs.Required.{tokens_in}
 use Rattle.ctl_text.specs.SpecText.{spaced, ended, line_for}
-use Rattle.formula_text.specs.Token.{tokens_of, is_space, are_joined, joins, before_token}
-use Rattle.formula_text.proofs.Tests.{both_true}
+use Rattle.strict_text.specs.Lines.{Line}
+use Rattle.strict_text.specs.Pieces.{is_space, before_first, joins, loose_words_of}
+use Rattle.strict_text.proofs.LineLaws.{line_then}
+use Rattle.formula_text.specs.Token.{tokens_of, are_joined}
+use Rattle.strict_text.proofs.Positions.{both_true}
 
 -- a byte that is seen: no space and no control
 abbrev pub is_seen : ℕ → Bool
@@ -82,21 +85,16 @@ plain_at [] plain k d lt = absurd (omega arith)
 plain_at (b ∷ bytes) plain zero d lt = (both_true (is_plain b) (list_all is_plain bytes) plain).0
 plain_at (b ∷ bytes) plain (suc k) d lt = plain_at bytes (both_true (is_plain b) (list_all is_plain bytes) plain).1 k d (omega arith)
 
-line_again : (line rest : List ℕ) → ((k : ℕ) → k < length line → (get_or line k 0 == 10) ≡ false) → lines_of (line ++ (10 ∷ rest)) ≡ line ∷ lines_of rest
-line_again [] rest none = refl
-line_again (b ∷ line) rest none =
-    let first : (b == 10) ≡ false = none 0 (omega arith) in
-    rw (first, line_again line rest (λ k lt. none (suc k) (omega arith))) refl
-
 -- a line with a line feed is cut off again
 pub ended_again : (line rest : List ℕ) → IsPlain line → lines_of (ended line ++ rest) ≡ line ∷ lines_of rest
 ended_again line rest plain =
-    ap lines_of (append_assoc line (10 ∷ []) rest) ∙ line_again line rest (λ k lt. plain_no_feed (get_or line k 0) (plain_at line plain k 0 lt))
+    let again = line_then line rest (λ k lt. plain_no_feed (get_or line k 0) (plain_at line plain k 0 lt)) in
+    ap lines_of (append_assoc line (10 ∷ []) rest) ∙ ap (λ lines. map (λ (l : Line). l.bytes) lines) again
 
 pub plain_text : (line : List ℕ) → IsPlain line → IsText line
 plain_text line plain = λ k d lt. plain_text_byte (get_or line k d) (plain_at line plain k d lt)
 
-word_again : (b : ℕ) (word rest : List ℕ) → all_seen (b ∷ word) ≡ true → words_of ((b ∷ word) ++ (32 ∷ rest)) ≡ (b ∷ word) ∷ words_of rest
+word_again : (b : ℕ) (word rest : List ℕ) → all_seen (b ∷ word) ≡ true → loose_words_of ((b ∷ word) ++ (32 ∷ rest)) ≡ (b ∷ word) ∷ loose_words_of rest
 word_again b [] rest seen = let first = seen_no_space b (both_true (is_seen b) true seen).0 in rw first refl
 word_again b (c ∷ word) rest seen =
     let h = both_true (is_seen b) (all_seen (c ∷ word)) seen in
@@ -105,7 +103,7 @@ word_again b (c ∷ word) rest seen =
     let more = word_again c word rest h.1 in
     rw (first, more, second) refl
 
-last_again : (b : ℕ) (word : List ℕ) → all_seen (b ∷ word) ≡ true → words_of (b ∷ word) ≡ (b ∷ word) ∷ []
+last_again : (b : ℕ) (word : List ℕ) → all_seen (b ∷ word) ≡ true → loose_words_of (b ∷ word) ≡ (b ∷ word) ∷ []
 last_again b [] seen = let first = seen_no_space b (both_true (is_seen b) true seen).0 in rw first refl
 last_again b (c ∷ word) seen =
     let h = both_true (is_seen b) (all_seen (c ∷ word)) seen in
@@ -119,7 +117,7 @@ abbrev pub AreWords : List (List ℕ) → Type 0
 AreWords [] = Unit {0}
 AreWords (word ∷ words) = (0 < length word) × (all_seen word ≡ true) × AreWords words
 
-words_again : (words : List (List ℕ)) → AreWords words → words_of (spaced words) ≡ words
+words_again : (words : List (List ℕ)) → AreWords words → loose_words_of (spaced words) ≡ words
 words_again [] are = refl
 words_again ([] ∷ []) are = absurd (omega arith)
 words_again ((b ∷ word) ∷ []) are = last_again b word are.1
@@ -153,7 +151,7 @@ item_words done_line other is = (omega arith, refl, tt)
 pub item_plain : (item : Said) → IsOther item → IsSpelled item → IsPlain (line_for item)
 item_plain item other is = spaced_plain (words_for item) (item_words item other is)
 
-pub item_again : (item : Said) → IsOther item → IsSpelled item → words_of (line_for item) ≡ words_for item
+pub item_again : (item : Said) → IsOther item → IsSpelled item → loose_words_of (line_for item) ≡ words_for item
 item_again item other is = words_again (words_for item) (item_words item other is)
 
 pub item_not_passed : (item : Said) → ArePassed (words_for item) → ⊥
@@ -231,81 +229,81 @@ gap_ends : (b c : ℕ) → is_space b ≡ false → is_space c ≡ true → are_
 gap_ends b c hb hc = grind (arith, nat_tests)
 
 abbrev FirstWord : ℕ → List ℕ → Type 0
-FirstWord c t = (w : List ℕ) × (ws : List (List ℕ)) × (words_of (c ∷ t) ≡ (c ∷ w) ∷ ws)
+FirstWord c t = (w : List ℕ) × (ws : List (List ℕ)) × (loose_words_of (c ∷ t) ≡ (c ∷ w) ∷ ws)
 
 unspaced : (b : Bool) → not b ≡ true → b ≡ false
 unspaced true e = cc
 unspaced false e = refl
 
 first_step : (c d : ℕ) (t : List ℕ) (g : Bool) → is_space c ≡ false → not (is_space d) ≡ g → (is_space d ≡ false → FirstWord d t) → FirstWord c (d ∷ t)
-first_step c d t false e h more = ([], words_of (d ∷ t), rw (e, h) refl)
+first_step c d t false e h more = ([], loose_words_of (d ∷ t), rw (e, h) refl)
 first_step c d t true e h more = let next = more (unspaced (is_space d) h) in (d ∷ next.0, next.1, rw (e, h) (ap (before_first c) next.2))
 
 first_word : (c : ℕ) (t : List ℕ) → is_space c ≡ false → FirstWord c t
 first_word c [] e = ([], [], rw e refl)
 first_word c (d ∷ t) e = first_step c d t (not (is_space d)) e refl (first_word d t)
 
-token_first : (b : ℕ) (xs ys : List (List ℕ)) → 0 < length xs → before_token b xs ++ ys ≡ before_token b (xs ++ ys)
+token_first : (b : ℕ) (xs ys : List (List ℕ)) → 0 < length xs → before_first b xs ++ ys ≡ before_first b (xs ++ ys)
 token_first b [] ys some = absurd (omega arith)
 token_first b (x ∷ xs) ys some = refl
 
-pushed_some : (b : ℕ) (xs : List (List ℕ)) → 0 < length (before_token b xs)
+pushed_some : (b : ℕ) (xs : List (List ℕ)) → 0 < length (before_first b xs)
 pushed_some b [] = omega arith
 pushed_some b (x ∷ xs) = omega arith
 
 some_tokens : (c : ℕ) (w : List ℕ) → is_space c ≡ false → 0 < length (tokens_of (c ∷ w))
-some_tokens c w e = by (joins c w) refl
+some_tokens c w e = by (joins are_joined c w) refl
   where
-    by : (g : Bool) → joins c w ≡ g → 0 < length (tokens_of (c ∷ w))
+    by : (g : Bool) → joins are_joined c w ≡ g → 0 < length (tokens_of (c ∷ w))
     by true h = rw (e, h) (pushed_some c (tokens_of w))
     by false h = rw (e, h) (omega arith)
 
 lone_token : (b : ℕ) → is_space b ≡ false → tokens_of (b ∷ []) ≡ (b ∷ []) ∷ []
 lone_token b e = rw e refl
 
-lone_word : (b : ℕ) → is_space b ≡ false → words_of (b ∷ []) ≡ (b ∷ []) ∷ []
+lone_word : (b : ℕ) → is_space b ≡ false → loose_words_of (b ∷ []) ≡ (b ∷ []) ∷ []
 lone_word b e = rw e refl
 
-apart_words : (b c : ℕ) (t : List ℕ) → is_space b ≡ false → is_space c ≡ true → words_of (b ∷ c ∷ t) ≡ (b ∷ []) ∷ words_of (c ∷ t)
+apart_words : (b c : ℕ) (t : List ℕ) → is_space b ≡ false → is_space c ≡ true → loose_words_of (b ∷ c ∷ t) ≡ (b ∷ []) ∷ loose_words_of (c ∷ t)
 apart_words b c t e h = rw (e, h) refl
 
 apart_tokens : (b c : ℕ) (t : List ℕ) → is_space b ≡ false → are_joined b c ≡ false → tokens_of (b ∷ c ∷ t) ≡ (b ∷ []) ∷ tokens_of (c ∷ t)
 apart_tokens b c t e h = rw (e, h) refl
 
-joined_tokens : (b c : ℕ) (t : List ℕ) → is_space b ≡ false → are_joined b c ≡ true → tokens_of (b ∷ c ∷ t) ≡ before_token b (tokens_of (c ∷ t))
+joined_tokens : (b c : ℕ) (t : List ℕ) → is_space b ≡ false → are_joined b c ≡ true → tokens_of (b ∷ c ∷ t) ≡ before_first b (tokens_of (c ∷ t))
 joined_tokens b c t e h = rw (e, h) refl
 
-joined_words : (b c : ℕ) (t : List ℕ) → is_space b ≡ false → is_space c ≡ false → words_of (b ∷ c ∷ t) ≡ before_first b (words_of (c ∷ t))
+joined_words : (b c : ℕ) (t : List ℕ) → is_space b ≡ false → is_space c ≡ false → loose_words_of (b ∷ c ∷ t) ≡ before_first b (loose_words_of (c ∷ t))
 joined_words b c t e h = rw (e, h) refl
 
 -- where both bytes are of one word
 within_word : (b c : ℕ) (t w : List ℕ) (ws : List (List ℕ)) (g : Bool) → is_space b ≡ false → is_space c ≡ false → are_joined b c ≡ g → tokens_of (c ∷ w) ++ tokens_in ws ≡ tokens_of (c ∷ t)
     → tokens_of (b ∷ c ∷ w) ++ tokens_in ws ≡ tokens_of (b ∷ c ∷ t)
 within_word b c t w ws true e h j more =
-    ap (λ ts. ts ++ tokens_in ws) (joined_tokens b c w e j) ∙ token_first b (tokens_of (c ∷ w)) (tokens_in ws) (some_tokens c w h) ∙ ap (before_token b) more ∙ sym (joined_tokens b c t e j)
+    ap (λ ts. ts ++ tokens_in ws) (joined_tokens b c w e j) ∙ token_first b (tokens_of (c ∷ w)) (tokens_in ws) (some_tokens c w h) ∙ ap (before_first b) more ∙ sym (joined_tokens b c t e j)
 within_word b c t w ws false e h j more =
     ap (λ ts. ts ++ tokens_in ws) (apart_tokens b c w e j) ∙ ap (λ ts. (b ∷ []) ∷ ts) more ∙ sym (apart_tokens b c t e j)
 
-tokens_step : (b c : ℕ) (t : List ℕ) (g : Bool) → is_space b ≡ false → is_space c ≡ g → tokens_in (words_of (c ∷ t)) ≡ tokens_of (c ∷ t) → tokens_in (words_of (b ∷ c ∷ t)) ≡ tokens_of (b ∷ c ∷ t)
+tokens_step : (b c : ℕ) (t : List ℕ) (g : Bool) → is_space b ≡ false → is_space c ≡ g → tokens_in (loose_words_of (c ∷ t)) ≡ tokens_of (c ∷ t) → tokens_in (loose_words_of (b ∷ c ∷ t)) ≡ tokens_of (b ∷ c ∷ t)
 tokens_step b c t true e h more =
-    ap tokens_in (apart_words b c t e h) ∙ ap (λ ts. ts ++ tokens_in (words_of (c ∷ t))) (lone_token b e) ∙ ap (λ ts. (b ∷ []) ∷ ts) more ∙ sym (apart_tokens b c t e (gap_ends b c e h))
+    ap tokens_in (apart_words b c t e h) ∙ ap (λ ts. ts ++ tokens_in (loose_words_of (c ∷ t))) (lone_token b e) ∙ ap (λ ts. (b ∷ []) ∷ ts) more ∙ sym (apart_tokens b c t e (gap_ends b c e h))
 tokens_step b c t false e h more =
     let first = first_word c t h in
     ap tokens_in (joined_words b c t e h ∙ ap (before_first b) first.2) ∙ within_word b c t first.0 first.1 (are_joined b c) e h refl (sym (ap tokens_in first.2) ∙ more)
 
-tokens_next : (b c : ℕ) (t : List ℕ) (g : Bool) → is_space b ≡ g → tokens_in (words_of (c ∷ t)) ≡ tokens_of (c ∷ t) → tokens_in (words_of (b ∷ c ∷ t)) ≡ tokens_of (b ∷ c ∷ t)
+tokens_next : (b c : ℕ) (t : List ℕ) (g : Bool) → is_space b ≡ g → tokens_in (loose_words_of (c ∷ t)) ≡ tokens_of (c ∷ t) → tokens_in (loose_words_of (b ∷ c ∷ t)) ≡ tokens_of (b ∷ c ∷ t)
 tokens_next b c t true e more = rw e more
 tokens_next b c t false e more = tokens_step b c t (is_space c) e refl more
 
-tokens_last : (b : ℕ) (g : Bool) → is_space b ≡ g → tokens_in (words_of (b ∷ [])) ≡ tokens_of (b ∷ [])
+tokens_last : (b : ℕ) (g : Bool) → is_space b ≡ g → tokens_in (loose_words_of (b ∷ [])) ≡ tokens_of (b ∷ [])
 tokens_last b true e = rw e refl
 tokens_last b false e = ap tokens_in (lone_word b e) ∙ ap (λ ts. ts ++ []) (lone_token b e) ∙ sym (lone_token b e)
 
-pub tokens_again : (t : List ℕ) → tokens_in (words_of t) ≡ tokens_of t
+pub tokens_again : (t : List ℕ) → tokens_in (loose_words_of t) ≡ tokens_of t
 tokens_again [] = refl
 tokens_again (b ∷ []) = tokens_last b (is_space b) refl
 tokens_again (b ∷ c ∷ t) = tokens_next b c t (is_space b) refl (tokens_again (c ∷ t))
 
 -- the words of a clause's line
-pub clause_words : (t : List ℕ) → words_of (codes "require " ++ t) ≡ codes "require" ∷ words_of t
+pub clause_words : (t : List ℕ) → loose_words_of (codes "require " ++ t) ≡ codes "require" ∷ loose_words_of t
 clause_words t = refl

@@ -11,7 +11,8 @@ use Rattle.ctl_text.specs.inside.LineCause.{LineBlocks}
 use Rattle.formula_text.specs.FormulaText.{formula_text}
 use Rattle.ctl_text.specs.Item.{Said, require_line, words_for, IsSpelled}
 use Rattle.ctl_text.specs.inside.Judged.{IsSpelledOver}
-use Rattle.ctl_text.specs.Lines.{lines_of, words_of}
+use Rattle.strict_text.specs.Pieces.{loose_words_of}
+use Rattle.ctl_text.specs.Lines.{lines_of}
 use Rattle.ctl_text.specs.SoundValue.{IsReadable}
 use Rattle.ctl_text.specs.SpecText.{ended, line_for, require_text}
 use Rattle.ctl_text.specs.State.{State, in_kind, MayStand, after}
@@ -51,20 +52,20 @@ item_goes s t x lines other may spelled free more =
 
 -- the canonical line of a clause of the open kind
 pub clause_goes : (v : SpecParts) (k : PairSpec) (a b : Names) (f : Form) (t : State) (lines : List (List ℕ)) → a ≡ (role_at v.roles k.role_a).locals → b ≡ (role_at v.roles k.role_b).locals → AllNames a → AllNames b → AreNames a → AreNames b → IsReadable a b f
-    → Goes (after (record { parts = v; group = in_kind k }) (require_line (words_of (formula_text a b f)) f)) lines t → Goes (record { parts = v; group = in_kind k }) (require_text a b f ∷ lines) t
+    → Goes (after (record { parts = v; group = in_kind k }) (require_line (loose_words_of (formula_text a b f)) f)) lines t → Goes (record { parts = v; group = in_kind k }) (require_text a b f ∷ lines) t
 clause_goes v k a b f t lines a_is b_is each_a each_b names_a names_b is more =
     let text = formula_text a b f in
     let s : State = record { parts = v; group = in_kind k } in
     let plain = plain_append (codes "require ") text refl (formula_plain a b f each_a each_b is.over) in
     let formula = canonical_is_formula a b f names_a names_b is.over in
     let over : IsSpelledOver a b (tokens_of text) f = record { spells = formula.spelled; known = formula.known; short = is.short } in
-    let made = clause_made v k a b (words_of text) f a_is b_is (subst (λ ts. IsSpelledOver a b ts f) (sym (tokens_again text)) over) in (
+    let made = clause_made v k a b (loose_words_of text) f a_is b_is (subst (λ ts. IsSpelledOver a b ts f) (sym (tokens_again text)) over) in (
       plain,
       (
-        after s (require_line (words_of text) f),
+        after s (require_line (loose_words_of text) f),
         (
-          taken_takes s (after s (require_line (words_of text) f)) (require_text a b f) (codes "require" ∷ words_of text) (codes "require" ∷ words_of text) (sym (clause_words text)) (sym (clause_words text)) (plain_text (require_text a b f) plain)
-              (item_not_passed (require_line (words_of text) f)) (record { free = made.free; item = require_line (words_of text) f; leaves = record { may = made.may; next = refl } }),
+          taken_takes s (after s (require_line (loose_words_of text) f)) (require_text a b f) (codes "require" ∷ loose_words_of text) (codes "require" ∷ loose_words_of text) (sym (clause_words text)) (sym (clause_words text)) (plain_text (require_text a b f) plain)
+              (item_not_passed (require_line (loose_words_of text) f)) (record { free = made.free; item = require_line (loose_words_of text) f; leaves = record { may = made.may; next = refl } }),
           more,
         ),
       ),

@@ -7,7 +7,7 @@ use Rattle.std.specs.List.{position_or_len}
 use Rattle.std.specs.Option.{is_some, unwrap_or}
 use Rattle.std.specs.Str.{bytes_eq}
 use Rattle.ctl_text.specs.Value.{number_in}
-use Rattle.formula_text.proofs.Tests.{none_passes_at}
+use Rattle.strict_text.proofs.Positions.{none_passes_at}
 
 first_named : {X : Type 0} (f : X → List ℕ) (xs : List X) (y : List ℕ) → position_or_len (λ x. bytes_eq x y) (map f xs) ≡ position_or_len (λ x. bytes_eq (f x) y) xs
 first_named f [] y = refl

@@ -10,7 +10,8 @@ use Rattle.text_cause.specs.inside.Laws.{IsLawful}
 use Rattle.text_cause.proofs.Lowest.{From, OneEach, from_row, from_or, from_numbered, lowest_once, one_each_row, one_each_or, one_each_above, one_each_numbered, to_numbered}
 use Rattle.ctl_text.specs.Cause.{Blocks, Crowds, DeclaresAgain, GoesOver, HasLargeClosure, HasOtherRoles, IsFirstCrowded, IsFirstStuck, IsLongLine, IsLoop, IsNoHead, JoinsAgain, JoinsItself, Leaves, LeavesStuck, MaySay, SaysNothing, Stands, Takes, UsesUnknown, WordsStand}
 use Rattle.ctl_text.specs.Item.{Said, role_line, local_line, arc_line, kind_line, end_line, process_line, edge_line}
-use Rattle.ctl_text.specs.Lines.{words_of, IsText, ArePassed}
+use Rattle.strict_text.specs.Pieces.{loose_words_of}
+use Rattle.ctl_text.specs.Lines.{IsText, ArePassed}
 use Rattle.ctl_text.specs.State.{State, Group, before_head, in_locals, in_arcs, after_done, after}
 use Rattle.ctl_text.specs.Text.{EndStands, specifications}
 use Rattle.ctl_text.specs.Value.{SpecParts}
@@ -26,7 +27,7 @@ leaves_once s words t u (inr p) (inl q) = absurd (p.0 q.0)
 leaves_once s words t u (inr (p, (x, xs))) (inr (q, (y, ys))) = xs.next ∙ ap (after s) (says_once s words x y xs.may ys.may) ∙ sym ys.next
 
 pub takes_once : (s : State) (line : List ℕ) (t u : State) → Takes s line t → Takes s line u → t ≡ u
-takes_once s line t u a b = leaves_once s (words_of line) t u a.leaves b.leaves
+takes_once s line t u a b = leaves_once s (loose_words_of line) t u a.leaves b.leaves
 
 -- which numbers a cause may have with it
 first_stuck_once : (names : List (List ℕ)) (made : List LocalArc) (k l : ℕ) → IsFirstStuck names made k → IsFirstStuck names made l → k ≡ l
@@ -166,11 +167,11 @@ module _ (s : State) (words : List (List ℕ)) where
       (one_each_above Long (IsLongLine words) OfLine (from_line 4 (omega arith)) (one_each_above BadLine (SaysNothing s words) OfItem from_item one_item))
 
 abbrev OfRead : State → List ℕ → TextCause → Type 0
-OfRead s line cause = (ArePassed (words_of line) → ⊥) × WordsStand s (words_of line) cause
+OfRead s line cause = (ArePassed (loose_words_of line) → ⊥) × WordsStand s (loose_words_of line) cause
 
 refused_once : (s : State) (line : List ℕ) (c d : TextCause) → IsLowest (Stands s line) c → IsLowest (Stands s line) d → c ≡ d
 refused_once s line c d a b =
-    lowest_once (Stands s line) c d (one_each_above NotText (IsText line → ⊥) (OfRead s line) (λ cause h. from_words s (words_of line) cause h.1) (λ c d same p q. one_words s (words_of line) c d same p.1 q.1)) a b
+    lowest_once (Stands s line) c d (one_each_above NotText (IsText line → ⊥) (OfRead s line) (λ cause h. from_words s (loose_words_of line) cause h.1) (λ c d same p q. one_words s (loose_words_of line) c d same p.1 q.1)) a b
 
 gives_free : (g : Group) (cause : TextCause) → g ≡ after_done → EndStands g cause → ⊥
 gives_free g cause is h = let end = subst (λ g. EndStands g cause) is h in end

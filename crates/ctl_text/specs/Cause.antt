@@ -14,7 +14,8 @@ use Rattle.text_cause.specs.Cause.{IsFree}
 use Rattle.text_cause.specs.declared.cause.TextCause.{TextCause}
 use Rattle.text_cause.specs.declared.cause.TextCause.TheVariants.{NotText, BadHead, Long, BadLine, UnknownName, Twice, SelfArc, NoArc, TooMany, ClosureOver, SelfEdge, EdgeTwice, DegreeOver, RoleMismatch}
 use Rattle.ctl_text.specs.Required.{tokens_in, SpellsOver, AreKnownOver, IsClosureOver}
-use Rattle.ctl_text.specs.Lines.{words_of, IsText, ArePassed}
+use Rattle.strict_text.specs.Pieces.{loose_words_of}
+use Rattle.ctl_text.specs.Lines.{IsText, ArePassed}
 use Rattle.ctl_text.specs.Item.{Said, head_line, role_line, local_line, start_line, arc_line, kind_line, require_line, end_line, process_line, edge_line, words_for, Says}
 use Rattle.ctl_text.specs.Value.{SpecParts, role_names, kind_names, process_names, number_in, AreJoined, kind_at, process_at}
 use Rattle.ctl_text.specs.State.{Group, before_head, in_locals, in_arcs, in_kind, State, MayStand, after}
@@ -161,7 +162,7 @@ WordsStand s words cause =
 
 -- what stands against a line, below this state; NotText: it has a byte that is not allowed
 abbrev pub Stands : State → List ℕ → TextCause → Type 0
-Stands s line cause = ((cause ≡ NotText) × (IsText line → ⊥)) ⊎ ((ArePassed (words_of line) → ⊥) × WordsStand s (words_of line) cause)
+Stands s line cause = ((cause ≡ NotText) × (IsText line → ⊥)) ⊎ ((ArePassed (loose_words_of line) → ⊥) × WordsStand s (loose_words_of line) cause)
 
 -- the words say what leaves this state
 pub record Leaves (s : State) (words : List (List ℕ)) (item : Said) (t : State) : Type 0 where
@@ -171,4 +172,4 @@ pub record Leaves (s : State) (words : List (List ℕ)) (item : Said) (t : State
 -- nothing stands against the line, and it leaves this state
 pub record Takes (s : State) (line : List ℕ) (t : State) : Type 0 where
   pub free : IsFree (Stands s line)
-  pub leaves : (ArePassed (words_of line) × (t ≡ s)) ⊎ ((ArePassed (words_of line) → ⊥) × ((item : Said) × Leaves s (words_of line) item t))
+  pub leaves : (ArePassed (loose_words_of line) × (t ≡ s)) ⊎ ((ArePassed (loose_words_of line) → ⊥) × ((item : Said) × Leaves s (loose_words_of line) item t))

@@ -2,6 +2,7 @@ pub mod Answers
 pub mod Cause
 pub mod Item
 pub mod Lines
+pub mod Normals
 pub mod Required
 pub mod SoundValue
 pub mod SpecText

@@ -4,6 +4,7 @@ pub mod ItemReading
 pub mod Judged
 pub mod LineCause
 pub mod Made
+pub mod Pairs
 pub mod ProcessNumbers
 pub mod Sound
 pub mod View

@@ -42,8 +42,8 @@ fn clause_of(alloc: Global, reader: &Reader, words: &[&[u8]]) -> Result<Formula,
     match &reader.place {
         Place::BeforeHead => Err(LineFault::Bad(TextCause::BadHead)),
         Place::InKind { role_a, role_b, .. } => {
-            let a = locals_at(&reader.roles, *role_a);
-            let b = locals_at(&reader.roles, *role_b);
+            let a = locals_at(reader.pairs.roles(), *role_a);
+            let b = locals_at(reader.pairs.roles(), *role_b);
             match spelled_over(alloc, a, b, words) {
                 Ok(formula) => Ok(formula),
                 Err(fault) => Err(fault),

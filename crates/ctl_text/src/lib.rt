@@ -2,20 +2,21 @@
 #![tactic(auto)]
 
 mod added;
-mod blocked;
 mod clause;
-mod closure_count;
 mod edges;
+mod ended;
 mod graph_cause;
 mod grown;
 mod item;
 mod laws;
 mod line;
 mod names;
+mod pairs;
 mod place;
 mod processes;
 mod read;
 mod role_cause;
+mod said;
 mod spec;
 mod spec_laws;
 mod spec_writer;

@@ -4,9 +4,10 @@ ghost use Rattle.ctl_text.specs.inside.View.{group_of, said};
 
 use crate::edges::Edges;
 use crate::item::Item;
+use crate::pairs::Pairs;
 use crate::processes::Processes;
-use ctl_form::{Formula, PairSpec};
-use pair_structure::{LocalArc, Name, Role};
+use ctl_form::Formula;
+use pair_structure::{LocalArc, Name};
 
 /// Which group of lines is open, with what an open role or kind has so far.
 #[derive(Drop)]
@@ -38,8 +39,7 @@ pub(crate) enum Place {
 /// What has been declared so far, and the open group.
 #[derive(Drop)]
 pub(crate) struct Reader {
-    pub roles: Vec<Role>,
-    pub kinds: Vec<PairSpec>,
+    pub pairs: Pairs,
     pub processes: Processes,
     pub edges: Edges,
     pub place: Place,

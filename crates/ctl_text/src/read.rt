@@ -10,25 +10,27 @@ ghost use Rattle.ctl_text.specs.inside.View.{state_of};
 ghost use Rattle.text_cause.specs.declared.cause.TextCause.{TextCause};
 ghost use Rattle.text_cause.specs.Answers.{IsFaultAt};
 ghost use Rattle.ctl_text.specs.Answers.{IsRefusal};
-ghost use Rattle.ctl_text.specs.inside.Made.{value_of, HasEnds};
+ghost use Rattle.ctl_text.specs.inside.Made.{value_of, IsWhole};
 
 use crate::edges::Edges;
-use crate::line::cut_line;
+use crate::pairs::Pairs;
 use crate::place::{Place, Reader};
 use crate::processes::Processes;
 use crate::spec::Spec;
 use crate::take::take_line;
-use ctl_form::PairSpec;
+use ctl_form::{Normal, PairSpec};
 use interconnection::{Edge, MAX_NEIGHBOURS, Network, NetworkFault, Process};
-use pair_structure::{Memory, Role};
+use pair_structure::Memory;
 use std::alloc::Global;
+use strict_text::cut_line;
 use text_cause::{LineFault, TextCause, TextFault};
 
-/// What a text makes: the network of its processes, and its kinds of pairs.
+/// What a text makes: the network of its processes, its kinds of pairs, and the normal form of each.
 #[derive(Drop)]
 pub(crate) struct Made {
     pub network: Network,
     pub kinds: Vec<PairSpec>,
+    pub normals: Vec<Normal>,
 }
 
 /// The specification of which the bytes are a text, or the first bad line with its lowest cause.
@@ -40,19 +42,24 @@ pub fn read_spec(alloc: Global, bytes: &[u8]) -> Result<Spec, TextFault>
     ensures roles { IfOk result (λ spec. All (IsOverRoles (length spec.roles)) spec.kinds) }
 {
     match read_text(alloc, bytes) {
-        Ok(Made { network, kinds }) => Ok(Spec::of(network, kinds)),
+        Ok(
+            Made {
+                network,
+                kinds,
+                normals,
+            },
+        ) => Ok(Spec::of(network, kinds, normals)),
         Err(fault) => Err(fault),
     }
 }
 
 fn read_text(alloc: Global, bytes: &[u8]) -> Result<Made, TextFault>
     ensures text { IfOk result (λ made. IsSpecText bytes.now (value_of made)) }
-    ensures ends { IfOk result HasEnds }
+    ensures whole { IfOk result IsWhole }
     ensures refused { IfErr result (IsRefusal bytes.now) }
 {
     let mut reader = Reader {
-        roles: Vec::new(alloc),
-        kinds: Vec::new(alloc),
+        pairs: Pairs::new(alloc),
         processes: Processes::new(alloc),
         edges: Edges::new(alloc),
         place: Place::BeforeHead,
@@ -61,7 +68,7 @@ fn read_text(alloc: Global, bytes: &[u8]) -> Result<Made, TextFault>
     let mut line: u64 = 1;
     while !rest.is_empty() {
         let (front, behind) = cut_line(rest);
-        reader = match take_line(alloc, reader, front) {
+        reader = match take_line(alloc, reader, front.bytes) {
             Ok(reader) => reader,
             Err(LineFault::Bad(what)) => return Err(TextFault::At { line, what }),
             Err(LineFault::Memory) => return Err(TextFault::Memory),
@@ -80,12 +87,11 @@ fn read_text(alloc: Global, bytes: &[u8]) -> Result<Made, TextFault>
 fn ended(alloc: Global, reader: Reader) -> Result<Made, LineFault>
     requires { IsSoundState (state_of reader) }
     ensures ok { IfOk result (λ made. Gives (state_of reader) (value_of made)) }
-    ensures ends { IfOk result HasEnds }
+    ensures whole { IfOk result IsWhole }
     ensures refused { IfErr result (IsBadEnd (state_of reader).group) }
 {
     let Reader {
-        roles,
-        kinds,
+        pairs,
         processes,
         edges,
         place,
@@ -93,7 +99,7 @@ fn ended(alloc: Global, reader: Reader) -> Result<Made, LineFault>
     match place {
         Place::BeforeHead => Err(LineFault::Bad(TextCause::BadHead)),
         Place::AfterDone => {
-            let made = made_of(alloc, roles, kinds, processes.into_vec(), edges.into_vec())?;
+            let made = made_of(alloc, pairs, processes.into_vec(), edges.into_vec())?;
             Ok(made)
         }
         _ => Err(LineFault::Bad(TextCause::BadLine)),
@@ -103,19 +109,23 @@ fn ended(alloc: Global, reader: Reader) -> Result<Made, LineFault>
 /// What these parts make.
 fn made_of(
     alloc: Global,
-    roles: Vec<Role>,
-    kinds: Vec<PairSpec>,
+    pairs: Pairs,
     processes: Vec<Process>,
     edges: Vec<Edge>,
 ) -> Result<Made, Memory>
-    requires lawful { AreLawful roles.items (kind_ends kinds.items) processes.items edges.items }
+    requires lawful { AreLawful pairs.roles (kind_ends pairs.kinds) processes.items edges.items }
     requires few { (k : ℕ) → degree_of edges.items k ≤ MAX_NEIGHBOURS }
-    ensures made { IfOk result (λ made. value_of made ≡ record { roles = roles.items; kinds = kinds.items; processes = processes.items; edges = edges.items }) }
-    ensures ends { IfOk result HasEnds }
+    ensures made { IfOk result (λ made. value_of made ≡ record { roles = pairs.roles; kinds = pairs.kinds; processes = processes.items; edges = edges.items }) }
+    ensures whole { IfOk result IsWhole }
 {
+    let (roles, kinds, normals) = pairs.into_parts();
     let ends = ends_of(alloc, &kinds)?;
     match Network::make(alloc, roles, ends, processes, edges) {
-        Ok(network) => Ok(Made { network, kinds }),
+        Ok(network) => Ok(Made {
+            network,
+            kinds,
+            normals,
+        }),
         Err(NetworkFault::Memory) => Err(Memory),
         Err(_) => unreachable!(),
     }

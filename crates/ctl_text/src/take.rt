@@ -8,13 +8,13 @@ ghost use Rattle.ctl_text.specs.Cause.{Blocks, WordsStand, Stands, Takes};
 ghost use Rattle.ctl_text.specs.inside.Sound.{IsSoundState};
 ghost use Rattle.ctl_text.specs.inside.View.{group_of, state_of, said};
 
-use crate::added::added;
-use crate::blocked::blocked;
 use crate::clause::take_clause;
 use crate::item::{Item, said_by};
-use crate::line::{are_passed, is_text, words_of};
+use crate::line::{are_passed, is_text};
 use crate::place::{Place, Reader, may_stand};
+use crate::said::take_said;
 use std::alloc::Global;
+use strict_text::loose_words;
 use text_cause::{LineFault, TextCause};
 
 /// What stands below the line. Linear in the line and in what it names.
@@ -27,7 +27,7 @@ pub(crate) fn take_line(alloc: Global, reader: Reader, line: &[u8]) -> Result<Re
     if !is_text(line) {
         return Err(LineFault::Bad(TextCause::NotText));
     }
-    let words = words_of(alloc, line)?;
+    let words = loose_words(alloc, line)?;
     if are_passed(&words) {
         return Ok(reader);
     }
@@ -84,11 +84,10 @@ fn take_item(alloc: Global, reader: Reader, words: &[&[u8]]) -> Result<Reader, L
     let Some(item) = placed_item(&reader.place, words) else {
         return Err(LineFault::Bad(misplaced(&reader.place)));
     };
-    if let Some(cause) = blocked(alloc, &reader, item)? {
-        return Err(LineFault::Bad(cause));
+    match take_said(alloc, reader, item) {
+        Ok(reader) => Ok(reader),
+        Err(fault) => Err(fault),
     }
-    let reader = added(alloc, reader, item)?;
-    Ok(reader)
 }
 
 /// What the words say, if it may stand there.

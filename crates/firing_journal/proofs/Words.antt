@@ -5,7 +5,8 @@ use Rattle.std.proofs.lemmas.Fmt.{decimal_injective}
 use Rattle.std.proofs.lemmas.List.Elements.{All-tail}
 use Rattle.strict_text.specs.Lines.{Line}
 use Rattle.strict_text.specs.Spaced.{spaced}
-use Rattle.strict_text.specs.Words.{before_word, words_of}
+use Rattle.strict_text.specs.Pieces.{before_first}
+use Rattle.strict_text.specs.Words.{words_of}
 use Rattle.strict_text.proofs.WordLaws.{one_line}
 use Rattle.firing_journal.specs.declared.journal.Entry.{Entry}
 use Rattle.firing_journal.specs.Said.{Said, head_line, entry_line, done_line, HasNumbers, IsWordNumber, Says, SaysWords, numbers_of, words_for}
@@ -116,10 +117,10 @@ pub words_stand : (bytes : List ℕ) → words_of bytes ≡ [] → ⊥
 words_stand [] is = cc
 words_stand (b ∷ bytes) is = by (b == 32) is
   where
-    never : (words : List (List ℕ)) → before_word b words ≡ [] → ⊥
+    never : (words : List (List ℕ)) → before_first b words ≡ [] → ⊥
     never [] is = cc
     never (word ∷ words) is = cc
 
-    by : (test : Bool) → (if test then [] ∷ words_of bytes else before_word b (words_of bytes)) ≡ [] → ⊥
+    by : (test : Bool) → (if test then [] ∷ words_of bytes else before_first b (words_of bytes)) ≡ [] → ⊥
     by true is = cc
     by false is = never (words_of bytes) is

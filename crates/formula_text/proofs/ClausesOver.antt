@@ -13,7 +13,7 @@ use Rattle.formula_text.specs.Canonical.{IsOver}
 use Rattle.formula_text.specs.Sign.{behind_dot, word_sign, sign_of, atom_or, number_of}
 use Rattle.formula_text.specs.Tree.{Tree, leaf, prefixed, grouped, conjunction, disjunction, implication, waits, signs, signs_of, tree_form, is_known, is_known_leaf, AreKnown, Spells}
 use Rattle.formula_text.proofs.SignRows.{word_kept, atom_or_kept, number_below}
-use Rattle.formula_text.proofs.Tests.{both_true}
+use Rattle.strict_text.proofs.Positions.{both_true}
 
 -- an atom is one of its side's local states
 abbrev LeafOver : Names → Names → Leaf → Type 0

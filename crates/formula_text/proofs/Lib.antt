@@ -8,6 +8,5 @@ pub mod ReadingRules
 pub mod RoleNames
 pub mod SignRows
 pub mod Spelled
-pub mod Tests
 pub mod TokenLaws
 pub mod Weights

@@ -1,12 +1,13 @@
 -- What is spelled is read again, whatever follows it.
 use Rattle.std.proofs.Common.{ℕ, ◌≡◌, ◌≤◌, ◌+◌, Bool, Some, None, List, [], ◌∷◌, ◌++◌, refl, arith, append_assoc, sym, subst}
 use Rattle.ctl_form.specs.Form.{implies, until}
+use Rattle.formula_text.specs.declared.chain.Chain.TheVariants.{Disjunction, Conjunction}
 use Rattle.formula_text.specs.declared.sign.Mark.TheVariants.{And, Or, Arrow, Close, Right}
 use Rattle.formula_text.specs.declared.sign.Sign.{Sign}
 use Rattle.formula_text.specs.declared.sign.Sign.TheVariants.{Behind, Until}
 use Rattle.formula_text.specs.Tree.{Tree, leaf, prefixed, grouped, conjunction, disjunction, implication, waits, signs, Fits, tree_form}
-use Rattle.formula_text.specs.inside.FormulaReading.{Part, formula, or, and, unary, or_more, and_more, Found, past, parse}
-use Rattle.formula_text.proofs.ReadingRules.{Gives, with_more, leaf_rule, prefix_rule, group_rule, wait_rule, and_rule, and_more_rule, and_ends, or_rule, or_more_rule, or_ends, formula_ends, arrow_rule}
+use Rattle.formula_text.specs.inside.FormulaReading.{Part, formula, chain_of, unary, goes_on, Found, past, parse}
+use Rattle.formula_text.proofs.ReadingRules.{Gives, with_more, leaf_rule, prefix_rule, group_rule, wait_rule, chain_rule, more_rule, chain_ends, formula_ends, arrow_rule}
 
 -- the fuel that the spelling takes where a unary stands
 abbrev pub cost : Tree → ℕ
@@ -28,10 +29,10 @@ abbrev UnaryAgain : Tree → Type 0
 UnaryAgain t = (rest : List Sign) → Gives (cost t) unary (signs t ++ rest) (tree_form t, rest)
 
 abbrev AndAgain : Tree → Type 0
-AndAgain t = (rest : List Sign) (x : Found) (k : ℕ) → Gives k (and_more (tree_form t)) rest x → Gives (cost t + 1 + k) and (signs t ++ rest) x
+AndAgain t = (rest : List Sign) (x : Found) (k : ℕ) → Gives k (goes_on Conjunction (tree_form t)) rest x → Gives (cost t + 1 + k) (chain_of Conjunction) (signs t ++ rest) x
 
 abbrev OrAgain : Tree → Type 0
-OrAgain t = (rest : List Sign) (x : Found) (k : ℕ) → past And rest ≡ None → Gives k (or_more (tree_form t)) rest x → Gives (cost t + 3 + k) or (signs t ++ rest) x
+OrAgain t = (rest : List Sign) (x : Found) (k : ℕ) → past And rest ≡ None → Gives k (goes_on Disjunction (tree_form t)) rest x → Gives (cost t + 3 + k) (chain_of Disjunction) (signs t ++ rest) x
 
 abbrev FormulaAgain : Tree → Type 0
 FormulaAgain t = (rest : List Sign) → IsEnd rest → Gives (cost t + 5) formula (signs t ++ rest) (tree_form t, rest)
@@ -44,16 +45,16 @@ record Again (t : Tree) : Type 0 where
   as_formula : Fits 0 t → FormulaAgain t
 
 and_from_unary : (t : Tree) → UnaryAgain t → AndAgain t
-and_from_unary t again rest x k more = with_more (cost t + k + 1) (cost t + 1 + k) and (signs t ++ rest) x (omega arith) (and_rule (signs t ++ rest) rest (tree_form t) x (cost t) k (again rest) more)
+and_from_unary t again rest x k more = with_more (cost t + k + 1) (cost t + 1 + k) (chain_of Conjunction) (signs t ++ rest) x (omega arith) (chain_rule Conjunction (signs t ++ rest) rest (tree_form t) x (cost t) k (again rest) more)
 
 or_from_and : (t : Tree) → AndAgain t → OrAgain t
 or_from_and t again rest x k none more =
-    let first = again rest (tree_form t, rest) 1 (and_ends rest (tree_form t) none) in
-    with_more (cost t + 1 + 1 + k + 1) (cost t + 3 + k) or (signs t ++ rest) x (omega arith) (or_rule (signs t ++ rest) rest (tree_form t) x (cost t + 1 + 1) k first more)
+    let first = again rest (tree_form t, rest) 1 (chain_ends Conjunction rest (tree_form t) none) in
+    with_more (cost t + 1 + 1 + k + 1) (cost t + 3 + k) (chain_of Disjunction) (signs t ++ rest) x (omega arith) (chain_rule Disjunction (signs t ++ rest) rest (tree_form t) x (cost t + 1 + 1) k first more)
 
 formula_from_or : (t : Tree) → OrAgain t → FormulaAgain t
 formula_from_or t again rest end =
-    let first = again rest (tree_form t, rest) 1 end.no_and (or_ends rest (tree_form t) end.no_or) in
+    let first = again rest (tree_form t, rest) 1 end.no_and (chain_ends Disjunction rest (tree_form t) end.no_or) in
     with_more (cost t + 3 + 1 + 1) (cost t + 5) formula (signs t ++ rest) (tree_form t, rest) (omega arith) (formula_ends (signs t ++ rest) rest (tree_form t) (cost t + 3 + 1) first end.no_arrow)
 
 from_unary : (t : Tree) → ((n : ℕ) → Fits n t → UnaryAgain t) → Again t
@@ -98,24 +99,24 @@ wait_again all weak f g first second rest =
 
 conjunction_again : (f g : Tree) → AndAgain f → UnaryAgain g → AndAgain (conjunction f g)
 conjunction_again f g first second rest x k more =
-    let tail = and_more_rule (signs g ++ rest) rest (tree_form f) (tree_form g) x (cost g) k (second rest) more in
+    let tail = more_rule Conjunction (signs g ++ rest) rest (tree_form f) (tree_form g) x (cost g) k (second rest) more in
     let whole = first (Behind And ∷ (signs g ++ rest)) x (cost g + k + 1) tail in
     let same : signs f ++ (Behind And ∷ (signs g ++ rest)) ≡ (signs f ++ (Behind And ∷ signs g)) ++ rest = sym (append_assoc (signs f) (Behind And ∷ signs g) rest) in
-    with_more (cost f + 1 + (cost g + k + 1)) (cost f + cost g + 1 + 1 + k) and (signs (conjunction f g) ++ rest) x (omega arith)
-    (along (cost f + 1 + (cost g + k + 1)) and (signs (conjunction f g) ++ rest) (signs f ++ (Behind And ∷ (signs g ++ rest))) x same whole)
+    with_more (cost f + 1 + (cost g + k + 1)) (cost f + cost g + 1 + 1 + k) (chain_of Conjunction) (signs (conjunction f g) ++ rest) x (omega arith)
+    (along (cost f + 1 + (cost g + k + 1)) (chain_of Conjunction) (signs (conjunction f g) ++ rest) (signs f ++ (Behind And ∷ (signs g ++ rest))) x same whole)
 
 disjunction_again : (f g : Tree) → OrAgain f → AndAgain g → OrAgain (disjunction f g)
 disjunction_again f g first second rest x k none more =
-    let part = second rest (tree_form g, rest) 1 (and_ends rest (tree_form g) none) in
-    let tail = or_more_rule (signs g ++ rest) rest (tree_form f) (tree_form g) x (cost g + 1 + 1) k part more in
+    let part = second rest (tree_form g, rest) 1 (chain_ends Conjunction rest (tree_form g) none) in
+    let tail = more_rule Disjunction (signs g ++ rest) rest (tree_form f) (tree_form g) x (cost g + 1 + 1) k part more in
     let whole = first (Behind Or ∷ (signs g ++ rest)) x (cost g + 1 + 1 + k + 1) refl tail in
     let same : signs f ++ (Behind Or ∷ (signs g ++ rest)) ≡ (signs f ++ (Behind Or ∷ signs g)) ++ rest = sym (append_assoc (signs f) (Behind Or ∷ signs g) rest) in
-    with_more (cost f + 3 + (cost g + 1 + 1 + k + 1)) (cost f + cost g + 3 + 3 + k) or (signs (disjunction f g) ++ rest) x (omega arith)
-    (along (cost f + 3 + (cost g + 1 + 1 + k + 1)) or (signs (disjunction f g) ++ rest) (signs f ++ (Behind Or ∷ (signs g ++ rest))) x same whole)
+    with_more (cost f + 3 + (cost g + 1 + 1 + k + 1)) (cost f + cost g + 3 + 3 + k) (chain_of Disjunction) (signs (disjunction f g) ++ rest) x (omega arith)
+    (along (cost f + 3 + (cost g + 1 + 1 + k + 1)) (chain_of Disjunction) (signs (disjunction f g) ++ rest) (signs f ++ (Behind Or ∷ (signs g ++ rest))) x same whole)
 
 implication_again : (f g : Tree) → OrAgain f → FormulaAgain g → FormulaAgain (implication f g)
 implication_again f g first second rest end =
-    let one = first (Behind Arrow ∷ (signs g ++ rest)) (tree_form f, Behind Arrow ∷ (signs g ++ rest)) 1 refl (or_ends (Behind Arrow ∷ (signs g ++ rest)) (tree_form f) refl) in
+    let one = first (Behind Arrow ∷ (signs g ++ rest)) (tree_form f, Behind Arrow ∷ (signs g ++ rest)) 1 refl (chain_ends Disjunction (Behind Arrow ∷ (signs g ++ rest)) (tree_form f) refl) in
     let whole = arrow_rule (signs f ++ (Behind Arrow ∷ (signs g ++ rest))) (signs g ++ rest) rest (tree_form f) (tree_form g) (cost f + 3 + 1) (cost g + 5) one (second rest end) in
     let same : signs f ++ (Behind Arrow ∷ (signs g ++ rest)) ≡ (signs f ++ (Behind Arrow ∷ signs g)) ++ rest = sym (append_assoc (signs f) (Behind Arrow ∷ signs g) rest) in
     with_more (cost f + 3 + 1 + (cost g + 5) + 1) (cost f + cost g + 5 + 5) formula (signs (implication f g) ++ rest) (implies (tree_form f) (tree_form g), rest) (omega arith)

@@ -2,14 +2,16 @@
 use Rattle.std.proofs.Common.{ℕ, zero, suc, ◌≡◌, ◌≤◌, ◌⊎◌, inl, inr, Bool, true, false, List, [], ◌∷◌, ◌++◌, ◌==◌, Option, Some, None, refl, sym, ap, ◌∙◌, arith, append_assoc, cond}
 use Rattle.std.proofs.lemmas.Bool.Decides.{nat_tests}
 use Rattle.std.proofs.lemmas.Option.{some_pair_parts}
-use Rattle.ctl_form.specs.Form.{Form, both, either, implies, until}
+use Rattle.ctl_form.specs.Form.{Form, implies, until}
+use Rattle.formula_text.specs.declared.chain.Chain.{Chain}
+use Rattle.formula_text.specs.declared.chain.Chain.TheVariants.{Disjunction, Conjunction}
 use Rattle.formula_text.specs.declared.sign.Mark.{Mark}
 use Rattle.formula_text.specs.declared.sign.Mark.TheVariants.{And, Or, Arrow, Close, Left, Right}
 use Rattle.formula_text.specs.declared.sign.Prefix.{Prefix}
 use Rattle.formula_text.specs.declared.sign.Sign.{Sign}
 use Rattle.formula_text.specs.declared.sign.Sign.TheVariants.{Alone, Before, Open, Behind, Path, Until, Other}
 use Rattle.formula_text.specs.Tree.{Tree, leaf, prefixed, grouped, conjunction, disjunction, implication, waits, signs, Fits, tree_form, leaf_form, prefix_form}
-use Rattle.formula_text.specs.inside.FormulaReading.{Part, formula, or, and, unary, or_more, and_more, group, wait, Found, ◌>>=◌, pick, mark_no, past, past_until, unary_at, parse}
+use Rattle.formula_text.specs.inside.FormulaReading.{Part, formula, chain_of, unary, goes_on, operand, chain_mark, chained, group, wait, Found, ◌>>=◌, pick, mark_no, past, past_until, unary_at, parse}
 
 bind_some : {X Y : Type 0} (o : Option X) (f : X → Option Y) (y : Y) → (o >>= f) ≡ Some y → (x : X) × (o ≡ Some x) × (f x ≡ Some y)
 bind_some None f y e = cc
@@ -84,13 +86,16 @@ lower n m ss f rest le s = record { tree = s.tree; spells = s.spells; fits = fit
 abbrev Goes : ℕ → Form → List Sign → Form → List Sign → Type 0
 Goes n g ss f rest = (u : Tree) → Fits n u → tree_form u ≡ g → Spelled n (signs u ++ ss) f rest
 
+-- the place of a chain in the grammar
+abbrev pub level : Chain → ℕ
+level Disjunction = 1
+level Conjunction = 2
+
 abbrev pub Reads : Part → List Sign → Form → List Sign → Type 0
 Reads formula ss f rest = Spelled 0 ss f rest
-Reads or ss f rest = Spelled 1 ss f rest
-Reads and ss f rest = Spelled 2 ss f rest
+Reads (chain_of c) ss f rest = Spelled (level c) ss f rest
 Reads unary ss f rest = Spelled 3 ss f rest
-Reads (or_more g) ss f rest = Goes 1 g ss f rest
-Reads (and_more g) ss f rest = Goes 2 g ss f rest
+Reads (goes_on c g) ss f rest = Goes (level c) g ss f rest
 Reads group ss f rest = Spelled 3 (Open ∷ ss) f rest
 Reads (wait all) ss f rest = Spelled 3 (Path all ∷ ss) f rest
 
@@ -106,15 +111,18 @@ goes_nowhere n g f ss rest same left u fits means = record { tree = u; spells = 
 joined : (a b x y z : List Sign) (w : Sign) → x ≡ w ∷ y → y ≡ b ++ z → a ++ x ≡ (a ++ (w ∷ b)) ++ z
 joined a b x y z w e h = rw (e, h) (sym (append_assoc a (w ∷ b) z))
 
-and_goes : (g h f : Form) (ss more middle rest : List Sign) → ss ≡ Behind And ∷ more → Spelled 3 more h middle → Goes 2 (both g h) middle f rest → Goes 2 g ss f rest
-and_goes g h f ss more middle rest is second goes u fits means =
+chain_goes : (c : Chain) (g h f : Form) (ss left middle rest : List Sign) → ss ≡ Behind (chain_mark c) ∷ left → Reads (operand c) left h middle → Goes (level c) (chained c g h) middle f rest → Goes (level c) g ss f rest
+chain_goes Conjunction g h f ss left middle rest is second goes u fits means =
     let there = goes (conjunction u second.tree) (omega arith, fits, second.fits) (let a = means in let b = second.means in cc) in
-    record { tree = there.tree; spells = joined (signs u) (signs second.tree) ss more middle (Behind And) is second.spells ∙ there.spells; fits = there.fits; means = there.means }
-
-or_goes : (g h f : Form) (ss more middle rest : List Sign) → ss ≡ Behind Or ∷ more → Spelled 2 more h middle → Goes 1 (either g h) middle f rest → Goes 1 g ss f rest
-or_goes g h f ss more middle rest is second goes u fits means =
+    record { tree = there.tree; spells = joined (signs u) (signs second.tree) ss left middle (Behind And) is second.spells ∙ there.spells; fits = there.fits; means = there.means }
+chain_goes Disjunction g h f ss left middle rest is second goes u fits means =
     let there = goes (disjunction u second.tree) (omega arith, fits, second.fits) (let a = means in let b = second.means in cc) in
-    record { tree = there.tree; spells = joined (signs u) (signs second.tree) ss more middle (Behind Or) is second.spells ∙ there.spells; fits = there.fits; means = there.means }
+    record { tree = there.tree; spells = joined (signs u) (signs second.tree) ss left middle (Behind Or) is second.spells ∙ there.spells; fits = there.fits; means = there.means }
+
+-- an operand is spelled where its chain may stand
+operand_takes : (c : Chain) (ss : List Sign) (g : Form) (middle : List Sign) → Reads (operand c) ss g middle → Spelled (level c) ss g middle
+operand_takes Disjunction ss g middle s = lower 1 2 ss g middle (omega arith) s
+operand_takes Conjunction ss g middle s = lower 2 3 ss g middle (omega arith) s
 
 arrow_takes : (g h : Form) (ss middle more rest : List Sign) → Spelled 1 ss g middle → middle ≡ Behind Arrow ∷ more → Spelled 0 more h rest → Spelled 0 ss (implies g h) rest
 arrow_takes g h ss middle more rest first is second = record {
@@ -173,32 +181,22 @@ pub parse_takes : (n : ℕ) → IsSound n
 unfolding parse
 parse_takes zero part ss f rest e = absurd (none_some (f, rest) e)
 parse_takes (suc n) formula ss f rest e =
-    let g = bind_some (parse n or ss) _ (f, rest) e in
-    let first = parse_takes n or ss g.0.0 g.0.1 g.1 in
+    let g = bind_some (parse n (chain_of Disjunction) ss) _ (f, rest) e in
+    let first = parse_takes n (chain_of Disjunction) ss g.0.0 g.0.1 g.1 in
     elim (pick_some (past Arrow g.0.1) _ _ (f, rest) g.2) [
       | inl p ↦ renamed 0 ss g.0.0 f g.0.1 rest p.1 (lower 0 1 ss g.0.0 g.0.1 (omega arith) first)
       | inr h ↦ (let k = bind_some (parse n formula h.0) _ (f, rest) h.2 in
           let second = parse_takes n formula h.0 k.0.0 k.0.1 k.1 in
           renamed 0 ss (implies g.0.0 k.0.0) f k.0.1 rest k.2 (arrow_takes g.0.0 k.0.0 ss g.0.1 h.0 k.0.1 first (past_is Arrow g.0.1 h.0 h.1) second))
     ]
-parse_takes (suc n) or ss f rest e =
-    let g = bind_some (parse n and ss) _ (f, rest) e in
-    let first = parse_takes n and ss g.0.0 g.0.1 g.1 in
-    goes_from 1 ss g.0.0 g.0.1 f rest (lower 1 2 ss g.0.0 g.0.1 (omega arith) first) (parse_takes n (or_more g.0.0) g.0.1 f rest g.2)
-parse_takes (suc n) and ss f rest e =
-    let g = bind_some (parse n unary ss) _ (f, rest) e in
-    let first = parse_takes n unary ss g.0.0 g.0.1 g.1 in
-    goes_from 2 ss g.0.0 g.0.1 f rest (lower 2 3 ss g.0.0 g.0.1 (omega arith) first) (parse_takes n (and_more g.0.0) g.0.1 f rest g.2)
+parse_takes (suc n) (chain_of c) ss f rest e =
+    let g = bind_some (parse n (operand c) ss) _ (f, rest) e in
+    goes_from (level c) ss g.0.0 g.0.1 f rest (operand_takes c ss g.0.0 g.0.1 (parse_takes n (operand c) ss g.0.0 g.0.1 g.1)) (parse_takes n (goes_on c g.0.0) g.0.1 f rest g.2)
 parse_takes (suc n) unary ss f rest e = unary_takes n (parse_takes n) ss f rest e
-parse_takes (suc n) (or_more g) ss f rest e = elim (pick_some (past Or ss) _ _ (f, rest) e) [
-  | inl p ↦ (let same = some_pair_parts g f ss rest p.1 in goes_nowhere 1 g f ss rest same.0 same.1)
-  | inr h ↦ (let k = bind_some (parse n and h.0) _ (f, rest) h.2 in
-      or_goes g k.0.0 f ss h.0 k.0.1 rest (past_is Or ss h.0 h.1) (parse_takes n and h.0 k.0.0 k.0.1 k.1) (parse_takes n (or_more (either g k.0.0)) k.0.1 f rest k.2))
-]
-parse_takes (suc n) (and_more g) ss f rest e = elim (pick_some (past And ss) _ _ (f, rest) e) [
-  | inl p ↦ (let same = some_pair_parts g f ss rest p.1 in goes_nowhere 2 g f ss rest same.0 same.1)
-  | inr h ↦ (let k = bind_some (parse n unary h.0) _ (f, rest) h.2 in
-      and_goes g k.0.0 f ss h.0 k.0.1 rest (past_is And ss h.0 h.1) (parse_takes n unary h.0 k.0.0 k.0.1 k.1) (parse_takes n (and_more (both g k.0.0)) k.0.1 f rest k.2))
+parse_takes (suc n) (goes_on c g) ss f rest e = elim (pick_some (past (chain_mark c) ss) _ _ (f, rest) e) [
+  | inl p ↦ (let same = some_pair_parts g f ss rest p.1 in goes_nowhere (level c) g f ss rest same.0 same.1)
+  | inr h ↦ (let k = bind_some (parse n (operand c) h.0) _ (f, rest) h.2 in
+      chain_goes c g k.0.0 f ss h.0 k.0.1 rest (past_is (chain_mark c) ss h.0 h.1) (parse_takes n (operand c) h.0 k.0.0 k.0.1 k.1) (parse_takes n (goes_on c (chained c g k.0.0)) k.0.1 f rest k.2))
 ]
 parse_takes (suc n) group ss f rest e =
     let g = bind_some (parse n formula ss) _ (f, rest) e in

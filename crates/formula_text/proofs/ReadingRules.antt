@@ -1,13 +1,15 @@
 -- One rule for each step of reading, with how much fuel it takes: a reading that has enough goes the same way with more.
 use Rattle.std.proofs.Common.{ℕ, zero, suc, ◌≡◌, ◌≤◌, ◌+◌, Bool, Some, None, List, ◌∷◌, refl, arith}
-use Rattle.ctl_form.specs.Form.{Form, both, either, implies, until}
+use Rattle.ctl_form.specs.Form.{Form, implies, until}
+use Rattle.formula_text.specs.declared.chain.Chain.{Chain}
+use Rattle.formula_text.specs.declared.chain.Chain.TheVariants.{Disjunction, Conjunction}
 use Rattle.formula_text.specs.declared.sign.Leaf.{Leaf}
-use Rattle.formula_text.specs.declared.sign.Mark.TheVariants.{And, Or, Arrow, Close, Left, Right}
+use Rattle.formula_text.specs.declared.sign.Mark.TheVariants.{Arrow, Close, Left, Right}
 use Rattle.formula_text.specs.declared.sign.Prefix.{Prefix}
 use Rattle.formula_text.specs.declared.sign.Sign.{Sign}
 use Rattle.formula_text.specs.declared.sign.Sign.TheVariants.{Alone, Before, Open, Behind, Path, Until}
 use Rattle.formula_text.specs.Tree.{leaf_form, prefix_form}
-use Rattle.formula_text.specs.inside.FormulaReading.{Part, formula, or, and, unary, or_more, and_more, Found, past, parse}
+use Rattle.formula_text.specs.inside.FormulaReading.{Part, formula, chain_of, unary, goes_on, operand, chain_mark, chained, Found, past, parse}
 
 -- with this much fuel or more, this is read
 pub record Gives (k : ℕ) (part : Part) (ss : List Sign) (x : Found) : Type 0 where
@@ -52,66 +54,44 @@ pub wait_rule : (all weak : Bool) (ss more rest : List Sign) (f g : Form) (a b :
     → Gives (a + b + 2) unary (Path all ∷ Behind Left ∷ ss) (until all weak f g, rest)
 wait_rule all weak ss more rest f g a b first second = record { from = wait_there all weak ss more rest f g a b first second }
 
-and_there : (ss rest : List Sign) (f : Form) (x : Found) (a k : ℕ) → Gives a unary ss (f, rest) → Gives k (and_more f) rest x → (m : ℕ) → a + k + 1 ≤ m → parse m and ss ≡ Some x
+chain_there : (c : Chain) (ss rest : List Sign) (f : Form) (x : Found) (a k : ℕ) → Gives a (operand c) ss (f, rest) → Gives k (goes_on c f) rest x → (m : ℕ) → a + k + 1 ≤ m → parse m (chain_of c) ss ≡ Some x
 unfolding parse
-and_there ss rest f x a k first more zero le = absurd (omega arith)
-and_there ss rest f x a k first more (suc m) le = rw (first.from m (omega arith)) (more.from m (omega arith))
+chain_there c ss rest f x a k first tail zero le = absurd (omega arith)
+chain_there c ss rest f x a k first tail (suc m) le = rw (first.from m (omega arith)) (tail.from m (omega arith))
 
-pub and_rule : (ss rest : List Sign) (f : Form) (x : Found) (a k : ℕ) → Gives a unary ss (f, rest) → Gives k (and_more f) rest x → Gives (a + k + 1) and ss x
-and_rule ss rest f x a k first more = record { from = and_there ss rest f x a k first more }
+pub chain_rule : (c : Chain) (ss rest : List Sign) (f : Form) (x : Found) (a k : ℕ) → Gives a (operand c) ss (f, rest) → Gives k (goes_on c f) rest x → Gives (a + k + 1) (chain_of c) ss x
+chain_rule c ss rest f x a k first tail = record { from = chain_there c ss rest f x a k first tail }
 
-and_more_there : (ss rest : List Sign) (f g : Form) (x : Found) (a k : ℕ) → Gives a unary ss (g, rest) → Gives k (and_more (both f g)) rest x → (m : ℕ) → a + k + 1 ≤ m → parse m (and_more f) (Behind And ∷ ss) ≡ Some x
+more_there : (c : Chain) (ss rest : List Sign) (f g : Form) (x : Found) (a k : ℕ) → Gives a (operand c) ss (g, rest) → Gives k (goes_on c (chained c f g)) rest x
+    → (m : ℕ) → a + k + 1 ≤ m → parse m (goes_on c f) (Behind (chain_mark c) ∷ ss) ≡ Some x
 unfolding parse
-and_more_there ss rest f g x a k first more zero le = absurd (omega arith)
-and_more_there ss rest f g x a k first more (suc m) le = rw (first.from m (omega arith)) (more.from m (omega arith))
+more_there c ss rest f g x a k first tail zero le = absurd (omega arith)
+more_there Disjunction ss rest f g x a k first tail (suc m) le = rw (first.from m (omega arith)) (tail.from m (omega arith))
+more_there Conjunction ss rest f g x a k first tail (suc m) le = rw (first.from m (omega arith)) (tail.from m (omega arith))
 
-pub and_more_rule : (ss rest : List Sign) (f g : Form) (x : Found) (a k : ℕ) → Gives a unary ss (g, rest) → Gives k (and_more (both f g)) rest x → Gives (a + k + 1) (and_more f) (Behind And ∷ ss) x
-and_more_rule ss rest f g x a k first more = record { from = and_more_there ss rest f g x a k first more }
+pub more_rule : (c : Chain) (ss rest : List Sign) (f g : Form) (x : Found) (a k : ℕ) → Gives a (operand c) ss (g, rest) → Gives k (goes_on c (chained c f g)) rest x → Gives (a + k + 1) (goes_on c f) (Behind (chain_mark c) ∷ ss) x
+more_rule c ss rest f g x a k first tail = record { from = more_there c ss rest f g x a k first tail }
 
-and_ends_there : (rest : List Sign) (f : Form) → past And rest ≡ None → (m : ℕ) → 1 ≤ m → parse m (and_more f) rest ≡ Some (f, rest)
+chain_ends_there : (c : Chain) (rest : List Sign) (f : Form) → past (chain_mark c) rest ≡ None → (m : ℕ) → 1 ≤ m → parse m (goes_on c f) rest ≡ Some (f, rest)
 unfolding parse
-and_ends_there rest f none zero le = absurd (omega arith)
-and_ends_there rest f none (suc m) le = rw none refl
+chain_ends_there c rest f none zero le = absurd (omega arith)
+chain_ends_there c rest f none (suc m) le = rw none refl
 
-pub and_ends : (rest : List Sign) (f : Form) → past And rest ≡ None → Gives 1 (and_more f) rest (f, rest)
-and_ends rest f none = record { from = and_ends_there rest f none }
+pub chain_ends : (c : Chain) (rest : List Sign) (f : Form) → past (chain_mark c) rest ≡ None → Gives 1 (goes_on c f) rest (f, rest)
+chain_ends c rest f none = record { from = chain_ends_there c rest f none }
 
-or_there : (ss rest : List Sign) (f : Form) (x : Found) (a k : ℕ) → Gives a and ss (f, rest) → Gives k (or_more f) rest x → (m : ℕ) → a + k + 1 ≤ m → parse m or ss ≡ Some x
-unfolding parse
-or_there ss rest f x a k first more zero le = absurd (omega arith)
-or_there ss rest f x a k first more (suc m) le = rw (first.from m (omega arith)) (more.from m (omega arith))
-
-pub or_rule : (ss rest : List Sign) (f : Form) (x : Found) (a k : ℕ) → Gives a and ss (f, rest) → Gives k (or_more f) rest x → Gives (a + k + 1) or ss x
-or_rule ss rest f x a k first more = record { from = or_there ss rest f x a k first more }
-
-or_more_there : (ss rest : List Sign) (f g : Form) (x : Found) (a k : ℕ) → Gives a and ss (g, rest) → Gives k (or_more (either f g)) rest x → (m : ℕ) → a + k + 1 ≤ m → parse m (or_more f) (Behind Or ∷ ss) ≡ Some x
-unfolding parse
-or_more_there ss rest f g x a k first more zero le = absurd (omega arith)
-or_more_there ss rest f g x a k first more (suc m) le = rw (first.from m (omega arith)) (more.from m (omega arith))
-
-pub or_more_rule : (ss rest : List Sign) (f g : Form) (x : Found) (a k : ℕ) → Gives a and ss (g, rest) → Gives k (or_more (either f g)) rest x → Gives (a + k + 1) (or_more f) (Behind Or ∷ ss) x
-or_more_rule ss rest f g x a k first more = record { from = or_more_there ss rest f g x a k first more }
-
-or_ends_there : (rest : List Sign) (f : Form) → past Or rest ≡ None → (m : ℕ) → 1 ≤ m → parse m (or_more f) rest ≡ Some (f, rest)
-unfolding parse
-or_ends_there rest f none zero le = absurd (omega arith)
-or_ends_there rest f none (suc m) le = rw none refl
-
-pub or_ends : (rest : List Sign) (f : Form) → past Or rest ≡ None → Gives 1 (or_more f) rest (f, rest)
-or_ends rest f none = record { from = or_ends_there rest f none }
-
-formula_ends_there : (ss rest : List Sign) (f : Form) (a : ℕ) → Gives a or ss (f, rest) → past Arrow rest ≡ None → (m : ℕ) → a + 1 ≤ m → parse m formula ss ≡ Some (f, rest)
+formula_ends_there : (ss rest : List Sign) (f : Form) (a : ℕ) → Gives a (chain_of Disjunction) ss (f, rest) → past Arrow rest ≡ None → (m : ℕ) → a + 1 ≤ m → parse m formula ss ≡ Some (f, rest)
 unfolding parse
 formula_ends_there ss rest f a first none zero le = absurd (omega arith)
 formula_ends_there ss rest f a first none (suc m) le = rw (first.from m (omega arith), none) refl
 
-pub formula_ends : (ss rest : List Sign) (f : Form) (a : ℕ) → Gives a or ss (f, rest) → past Arrow rest ≡ None → Gives (a + 1) formula ss (f, rest)
+pub formula_ends : (ss rest : List Sign) (f : Form) (a : ℕ) → Gives a (chain_of Disjunction) ss (f, rest) → past Arrow rest ≡ None → Gives (a + 1) formula ss (f, rest)
 formula_ends ss rest f a first none = record { from = formula_ends_there ss rest f a first none }
 
-arrow_there : (ss more rest : List Sign) (f g : Form) (a b : ℕ) → Gives a or ss (f, Behind Arrow ∷ more) → Gives b formula more (g, rest) → (m : ℕ) → a + b + 1 ≤ m → parse m formula ss ≡ Some (implies f g, rest)
+arrow_there : (ss more rest : List Sign) (f g : Form) (a b : ℕ) → Gives a (chain_of Disjunction) ss (f, Behind Arrow ∷ more) → Gives b formula more (g, rest) → (m : ℕ) → a + b + 1 ≤ m → parse m formula ss ≡ Some (implies f g, rest)
 unfolding parse
 arrow_there ss more rest f g a b first second zero le = absurd (omega arith)
 arrow_there ss more rest f g a b first second (suc m) le = rw (first.from m (omega arith), second.from m (omega arith)) refl
 
-pub arrow_rule : (ss more rest : List Sign) (f g : Form) (a b : ℕ) → Gives a or ss (f, Behind Arrow ∷ more) → Gives b formula more (g, rest) → Gives (a + b + 1) formula ss (implies f g, rest)
+pub arrow_rule : (ss more rest : List Sign) (f g : Form) (a b : ℕ) → Gives a (chain_of Disjunction) ss (f, Behind Arrow ∷ more) → Gives b formula more (g, rest) → Gives (a + b + 1) formula ss (implies f g, rest)
 arrow_rule ss more rest f g a b first second = record { from = arrow_there ss more rest f g a b first second }

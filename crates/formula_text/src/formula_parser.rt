@@ -1,9 +1,10 @@
 ghost use Rattle.std.specs.Prelude.{◌≡◌, ◌==◌, IfOk};
 ghost use Rattle.std.specs.Option.{option_map};
-ghost use Rattle.ctl_form.specs.Form.{form_of, both, either, implies, until};
+ghost use Rattle.ctl_form.specs.Form.{form_of, implies, until};
 ghost use Rattle.formula_text.specs.Tree.{leaf_form, prefix_form};
-ghost use Rattle.formula_text.specs.inside.FormulaReading.{past, past_until, parse, mark_no, formula, or, and, unary, or_more, and_more, group, wait};
+ghost use Rattle.formula_text.specs.inside.FormulaReading.{past, past_until, parse, mark_no, formula, chain_of, unary, goes_on, operand, group, wait};
 
+use crate::chain::{Chain, chain_mark, chained};
 use crate::sign::{Leaf, Mark, Prefix, Sign};
 use ctl_form::Formula;
 use pair_structure::Memory;
@@ -74,22 +75,12 @@ fn prefixed(alloc: Global, prefix: Prefix, f: Formula) -> Result<Formula, Memory
     }
 }
 
-fn joined_by_and(alloc: Global, f: Formula, g: Formula) -> Result<Formula, Memory>
-    ensures { IfOk result (λ made. form_of made ≡ both (form_of f) (form_of g)) }
-{
-    Ok(Formula::And(Box::new(alloc, f)?, Box::new(alloc, g)?))
-}
-
-fn joined_by_or(alloc: Global, f: Formula, g: Formula) -> Result<Formula, Memory>
-    ensures { IfOk result (λ made. form_of made ≡ either (form_of f) (form_of g)) }
-{
-    Ok(Formula::Or(Box::new(alloc, f)?, Box::new(alloc, g)?))
-}
-
 fn joined_by_arrow(alloc: Global, f: Formula, g: Formula) -> Result<Formula, Memory>
     ensures { IfOk result (λ made. form_of made ≡ implies (form_of f) (form_of g)) }
 {
-    Ok(Formula::Implies(Box::new(alloc, f)?, Box::new(alloc, g)?))
+    let f = Box::new(alloc, f)?;
+    let g = Box::new(alloc, g)?;
+    Ok(Formula::Implies(f, g))
 }
 
 fn joined_by_until(
@@ -119,7 +110,7 @@ pub(crate) fn parse_formula<'a>(
     if depth == 0 {
         return Ok(None);
     }
-    let Some((f, rest)) = parse_or(alloc, depth - 1, signs)? else {
+    let Some((f, rest)) = parse_chain(alloc, depth - 1, Chain::Disjunction, signs)? else {
         return Ok(None);
     };
     let Some(more) = past(Mark::Arrow, rest) else {
@@ -131,84 +122,64 @@ pub(crate) fn parse_formula<'a>(
     Ok(Some((joined_by_arrow(alloc, f, g)?, rest)))
 }
 
+/// A chain of operands that the operator joins.
 #[cycle(parser)]
 #[tactic(auto, unfolding(crate::specs::inside::FormulaReading::parse))]
-fn parse_or<'a>(
+fn parse_chain<'a>(
     alloc: Global,
     depth: usize,
+    chain: Chain,
     signs: &'a [Sign],
 ) -> Result<Option<(Formula, &'a [Sign])>, Memory>
-    ensures { IfOk result (λ found. option_map (λ x. (form_of x.0, x.1.now)) found ≡ parse depth or signs.now) }
+    ensures { IfOk result (λ found. option_map (λ x. (form_of x.0, x.1.now)) found ≡ parse depth (chain_of chain) signs.now) }
 {
     if depth == 0 {
         return Ok(None);
     }
-    let Some((f, rest)) = parse_and(alloc, depth - 1, signs)? else {
+    let Some((f, rest)) = parse_operand(alloc, depth - 1, chain, signs)? else {
         return Ok(None);
     };
-    Ok(parse_or_more(alloc, depth - 1, f, rest)?)
+    Ok(parse_more(alloc, depth - 1, chain, f, rest)?)
 }
 
+/// An operand of a disjunction is a conjunction, and of that one a unary.
 #[cycle(parser)]
-#[tactic(auto, unfolding(crate::specs::inside::FormulaReading::parse))]
-fn parse_or_more<'a>(
+fn parse_operand<'a>(
     alloc: Global,
     depth: usize,
+    chain: Chain,
+    signs: &'a [Sign],
+) -> Result<Option<(Formula, &'a [Sign])>, Memory>
+    ensures { IfOk result (λ found. option_map (λ x. (form_of x.0, x.1.now)) found ≡ parse depth (operand chain) signs.now) }
+{
+    match chain {
+        Chain::Disjunction => Ok(parse_chain(alloc, depth, Chain::Conjunction, signs)?),
+        Chain::Conjunction => Ok(parse_unary(alloc, depth, signs)?),
+    }
+}
+
+/// The rest of a chain that has come to this formula.
+#[cycle(parser)]
+#[tactic(auto, unfolding(crate::specs::inside::FormulaReading::parse))]
+fn parse_more<'a>(
+    alloc: Global,
+    depth: usize,
+    chain: Chain,
     f: Formula,
     signs: &'a [Sign],
 ) -> Result<Option<(Formula, &'a [Sign])>, Memory>
-    ensures { IfOk result (λ found. option_map (λ x. (form_of x.0, x.1.now)) found ≡ parse depth (or_more (form_of f)) signs.now) }
+    ensures { IfOk result (λ found. option_map (λ x. (form_of x.0, x.1.now)) found ≡ parse depth (goes_on chain (form_of f)) signs.now) }
 {
     if depth == 0 {
         return Ok(None);
     }
-    let Some(rest) = past(Mark::Or, signs) else {
+    let Some(rest) = past(chain_mark(chain), signs) else {
         return Ok(Some((f, signs)));
     };
-    let Some((g, rest)) = parse_and(alloc, depth - 1, rest)? else {
+    let Some((g, rest)) = parse_operand(alloc, depth - 1, chain, rest)? else {
         return Ok(None);
     };
-    Ok(parse_or_more(alloc, depth - 1, joined_by_or(alloc, f, g)?, rest)?)
-}
-
-#[cycle(parser)]
-#[tactic(auto, unfolding(crate::specs::inside::FormulaReading::parse))]
-fn parse_and<'a>(
-    alloc: Global,
-    depth: usize,
-    signs: &'a [Sign],
-) -> Result<Option<(Formula, &'a [Sign])>, Memory>
-    ensures { IfOk result (λ found. option_map (λ x. (form_of x.0, x.1.now)) found ≡ parse depth and signs.now) }
-{
-    if depth == 0 {
-        return Ok(None);
-    }
-    let Some((f, rest)) = parse_unary(alloc, depth - 1, signs)? else {
-        return Ok(None);
-    };
-    Ok(parse_and_more(alloc, depth - 1, f, rest)?)
-}
-
-#[cycle(parser)]
-#[tactic(auto, unfolding(crate::specs::inside::FormulaReading::parse))]
-fn parse_and_more<'a>(
-    alloc: Global,
-    depth: usize,
-    f: Formula,
-    signs: &'a [Sign],
-) -> Result<Option<(Formula, &'a [Sign])>, Memory>
-    ensures { IfOk result (λ found. option_map (λ x. (form_of x.0, x.1.now)) found ≡ parse depth (and_more (form_of f)) signs.now) }
-{
-    if depth == 0 {
-        return Ok(None);
-    }
-    let Some(rest) = past(Mark::And, signs) else {
-        return Ok(Some((f, signs)));
-    };
-    let Some((g, rest)) = parse_unary(alloc, depth - 1, rest)? else {
-        return Ok(None);
-    };
-    Ok(parse_and_more(alloc, depth - 1, joined_by_and(alloc, f, g)?, rest)?)
+    Ok(parse_more(alloc, depth - 1, chain, chained(alloc, chain, f, g)?, rest)?)
 }
 
 #[cycle(parser)]

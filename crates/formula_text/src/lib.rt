@@ -1,6 +1,7 @@
 //! The texts of formulas: which tokens spell which formula, read exactly, and written in one canonical form.
 #![tactic(auto)]
 
+mod chain;
 mod formula_fault;
 mod formula_parser;
 mod formula_reader;
@@ -17,4 +18,4 @@ pub use formula_writer::write_formula;
 pub use laws::{canonical_is_formula, is_spelled_once};
 pub use long::is_long;
 pub use sign::{Leaf, Mark, Prefix, Sign};
-pub use token::{is_space, tokens_of};
+pub use token::tokens_of;

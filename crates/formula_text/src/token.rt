@@ -1,9 +1,11 @@
-ghost use Rattle.std.specs.Prelude.{◌≡◌, ℕ, ◌+◌, ◌-◌, ◌<◌, ◌≤◌, ◌++◌, ◌∷◌, [], length, map, not, true, false, position, slice_index, IfOk, IfSome, IfNone, OnOk};
+ghost use Rattle.std.specs.Prelude.{◌≡◌, ℕ, ◌+◌, ◌-◌, ◌<◌, ◌≤◌, ◌++◌, ◌∷◌, [], length, map, true, false, slice_index, IfOk, IfSome, IfNone, OnOk};
 ghost use Rattle.std.specs.List.{flat_map};
-ghost use Rattle.formula_text.specs.Token.{tokens_of, is_space, is_word_byte, are_joined};
+ghost use Rattle.strict_text.specs.Pieces.{is_space};
+ghost use Rattle.formula_text.specs.Token.{tokens_of, is_word_byte, are_joined};
 
 use pair_structure::Memory;
 use std::alloc::{AllocError, Global};
+use strict_text::first_piece;
 
 /// The tokens of these words, which are a line's, in their order. Linear in the bytes.
 pub fn tokens_of<'a>(alloc: Global, words: &[&'a [u8]]) -> Result<Vec<&'a [u8]>, Memory>
@@ -34,8 +36,8 @@ fn next_token(bytes: &[u8]) -> Option<(&[u8], &[u8])>
     ensures shorter { IfSome result (λ x. length x.1.now < length bytes.now) }
     ensures none { IfNone result (tokens_of bytes.now ≡ []) }
 {
-    match token_start(bytes) {
-        Some(start) => Some(cut_token(bytes.split_at(start).1)),
+    match first_piece(bytes) {
+        Some(from) => Some(cut_token(from)),
         None => None,
     }
 }
@@ -48,13 +50,6 @@ fn cut_token(bytes: &[u8]) -> (&[u8], &[u8])
     ensures shorter { length result.1.now < length bytes.now }
 {
     bytes.split_at(token_end(bytes))
-}
-
-fn token_start(bytes: &[u8]) -> Option<usize>
-    ensures start { result ≡ position (λ b. not (is_space b)) bytes.now }
-    ensures within { IfSome result (λ n. n < length bytes.now) }
-{
-    bytes.iter().position(|b| !is_space(*b))
 }
 
 /// How many bytes the token has that begins here.
@@ -83,11 +78,4 @@ fn is_word_byte(b: u8) -> bool
     ensures { result ≡ is_word_byte b }
 {
     b.is_ascii_alphanumeric() || b == b'_' || b == b'.'
-}
-
-/// Whether the byte is a space or a tab.
-pub fn is_space(b: u8) -> bool
-    ensures { result ≡ is_space b }
-{
-    b == b' ' || b == b'\t'
 }

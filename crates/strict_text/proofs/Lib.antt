@@ -1,4 +1,5 @@
 pub mod LineLaws
 pub mod NumberLaws
+pub mod PieceLaws
 pub mod Positions
 pub mod WordLaws

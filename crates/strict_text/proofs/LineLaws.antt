@@ -1,5 +1,5 @@
 -- How a strict text is cut into lines.
-use Rattle.std.proofs.Common.{ℕ, zero, suc, ◌≡◌, ◌<◌, ◌+◌, Bool, true, false, List, [], ◌∷◌, ◌++◌, ◌==◌, length, get_or, take, drop, refl, arith, position, Some, None, add-one, sym, ap}
+use Rattle.std.proofs.Common.{ℕ, zero, suc, ◌≡◌, ◌<◌, ◌+◌, true, false, List, [], ◌∷◌, ◌++◌, ◌==◌, length, get_or, take, drop, refl, arith, position, Some, None, add-one, sym, ap}
 use Rattle.std.proofs.lemmas.List.Quantifiers.{position-Some}
 use Rattle.std.proofs.Math.Seq.{drop-length, take-length}
 use Rattle.std.proofs.lemmas.Bool.{eqb-true}
@@ -16,6 +16,13 @@ cut_before (b ∷ bytes) (suc n) lt at before =
 
 pub cut_at : (bytes : List ℕ) (n : ℕ) → position (λ b. b == 10) bytes ≡ Some n → lines_of bytes ≡ record { bytes = take n bytes; is_ended = true } ∷ lines_of (drop (n + 1) bytes)
 cut_at bytes n e = let p = position-Some (λ b. b == 10) bytes n 0 e in rw add-one (cut_before bytes n p.0 p.1 p.2)
+
+-- a line that a line feed ends is cut off again
+pub line_then : (line rest : List ℕ) → ((k : ℕ) → k < length line → (get_or line k 0 == 10) ≡ false) → lines_of (line ++ 10 ∷ rest) ≡ record { bytes = line; is_ended = true } ∷ lines_of rest
+line_then [] rest none = refl
+line_then (b ∷ line) rest none =
+    let first : (b == 10) ≡ false = none 0 (omega arith) in
+    rw (first, line_then line rest (λ k lt. none (suc k) (omega arith))) refl
 
 last_line : (bytes : List ℕ) → 0 < length bytes → ((k : ℕ) → k < length bytes → (get_or bytes k 0 == 10) ≡ false) → lines_of bytes ≡ record { bytes = bytes; is_ended = false } ∷ []
 last_line [] some none = absurd (omega arith)

@@ -6,9 +6,10 @@ use Rattle.std.proofs.lemmas.Bool.{eqb-true}
 use Rattle.std.proofs.lemmas.List.Elements.{All-cons, All-nil}
 use Rattle.std.specs.List.{list_all}
 use Rattle.strict_text.specs.Lines.{lines_of, is_strict_byte, IsStrict}
-use Rattle.strict_text.specs.Words.{words_of, before_word}
+use Rattle.strict_text.specs.Pieces.{before_first}
+use Rattle.strict_text.specs.Words.{words_of}
 use Rattle.strict_text.specs.Spaced.{spaced, line_text, IsWord, AreWords, WordsOfLine, OneLine}
-use Rattle.strict_text.proofs.Positions.{none_passes}
+use Rattle.strict_text.proofs.Positions.{both_true, none_passes}
 
 cut_before : (line : List ℕ) (n : ℕ) → n < length line → (get_or line n 0 == 32) ≡ true → ((k : ℕ) → k < n → (get_or line k 0 == 32) ≡ false) → words_of line ≡ take n line ∷ words_of (drop (suc n) line)
 cut_before [] n lt at before = absurd (omega arith)
@@ -36,11 +37,11 @@ pub words_some : (line : List ℕ) → 0 < length (words_of line)
 words_some [] = omega arith
 words_some (b ∷ line) = elim (b == 32) as (λ t. b == 32 ≡ t → 0 < length (words_of (b ∷ line))) [ true ↦ λ e. rw e (omega arith) | false ↦ λ e. rw e (begun b (words_of line)) ] refl
   where
-    begun : (b : ℕ) (words : List (List ℕ)) → 0 < length (before_word b words)
+    begun : (b : ℕ) (words : List (List ℕ)) → 0 < length (before_first b words)
     begun b [] = omega arith
     begun b (word ∷ words) = omega arith
 
-spaced_first : (b : ℕ) (words : List (List ℕ)) → spaced (before_word b words) ≡ b ∷ spaced words
+spaced_first : (b : ℕ) (words : List (List ℕ)) → spaced (before_first b words) ≡ b ∷ spaced words
 spaced_first b [] = refl
 spaced_first b (word ∷ []) = refl
 spaced_first b (word ∷ next ∷ words) = refl
@@ -121,11 +122,6 @@ is_word_byte b = nat_le 33 b && nat_le b 126
 
 byte_bounds : (b : ℕ) → is_word_byte b ≡ true → (33 ≤ b) × (b ≤ 126)
 byte_bounds b e = grind (arith, nat_tests)
-
-both_true : (s t : Bool) → s && t ≡ true → (s ≡ true) × (t ≡ true)
-both_true true true e = (refl, refl)
-both_true true false e = cc
-both_true false t e = cc
 
 -- bytes of a word are a word
 pub word_of_bytes : (word : List ℕ) → list_all is_word_byte word ≡ true → IsWord word

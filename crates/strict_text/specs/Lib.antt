@@ -1,4 +1,5 @@
 pub mod Lines
+pub mod Pieces
 pub mod Spaced
 pub mod View
 pub mod Words

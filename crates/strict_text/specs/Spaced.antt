@@ -1,6 +1,5 @@
 -- How words are written as a line.
-use Rattle.std.specs.Prelude.{ℕ, ◌≡◌, ◌≤◌, ◌<◌, true, List, [], ◌∷◌, ◌++◌}
-use Rattle.strict_text.specs.Lines.{Line, lines_of}
+use Rattle.std.specs.Prelude.{ℕ, ◌≡◌, ◌≤◌, List, [], ◌∷◌, ◌++◌}
 use Rattle.strict_text.specs.Words.{words_of}
 
 -- one space between two words

@@ -3,10 +3,12 @@
 
 mod laws;
 mod line;
+mod loose;
 mod numeral;
 mod word;
 
 pub use laws::{one_line, words_of_line};
 pub use line::{Line, cut_line, is_strict};
+pub use loose::{first_piece, loose_words};
 pub use numeral::number;
 pub use word::cut_word;

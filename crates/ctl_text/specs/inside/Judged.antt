@@ -9,16 +9,24 @@ use Rattle.text_cause.specs.declared.line_fault.LineFault.TheVariants.{Bad, Memo
 use Rattle.formula_text.specs.Long.{IsLong}
 use Rattle.ctl_text.specs.Required.{SpellsOver, AreKnownOver, IsUnspelled}
 use Rattle.ctl_text.specs.Item.{Said, require_line, Says}
-use Rattle.ctl_text.specs.State.{State, Group, before_head, MayStand}
+use Rattle.ctl_text.specs.State.{State, Group, before_head, MayStand, after}
 use Rattle.ctl_text.specs.Text.{EndStands}
 use Rattle.text_cause.specs.Cause.{IsFree}
 use Rattle.ctl_text.specs.Cause.{WordsStand, MaySay, Leaves}
+use Rattle.ctl_text.specs.inside.LineCause.{LineBlocks}
+use Rattle.ctl_text.specs.inside.Sound.{IsSoundState}
 
 -- nothing stands against the words, and they leave this state
 pub record IsTakenAs (s : State) (words : List (List ℕ)) (t : State) : Type 0 where
   pub free : IsFree (WordsStand s words)
   pub item : Said
   pub leaves : Leaves s words item t
+
+-- nothing stands against what the line says, and it leaves this state, which is sound
+pub record IsSaidTaken (s : State) (item : Said) (t : State) : Type 0 where
+  pub next : t ≡ after s item
+  pub free : IsFree (LineBlocks s item)
+  pub sound : IsSoundState t
 
 -- the cause of a line that may not stand there and requires no clause
 abbrev pub misplaced : Group → TextCause

@@ -33,4 +33,4 @@ group_of AmongEdges = among_edges
 group_of AfterDone = after_done
 
 abbrev pub state_of : Reader → State
-state_of r = record { parts = record { roles = r.roles.items; kinds = r.kinds.items; processes = r.processes; edges = r.edges }; group = group_of r.place }
+state_of r = record { parts = record { roles = r.pairs.roles; kinds = r.pairs.kinds; processes = r.processes; edges = r.edges }; group = group_of r.place }

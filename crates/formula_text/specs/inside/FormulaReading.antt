@@ -1,6 +1,8 @@
 -- How signs are read as a formula, from left to right.
 use Rattle.std.specs.Prelude.{ℕ, zero, suc, Bool, Option, Some, None, List, ◌∷◌, ◌==◌, if◌then◌else◌}
 use Rattle.ctl_form.specs.Form.{Form, both, either, implies, until}
+use Rattle.formula_text.specs.declared.chain.Chain.{Chain}
+use Rattle.formula_text.specs.declared.chain.Chain.TheVariants.{Disjunction, Conjunction}
 use Rattle.formula_text.specs.declared.sign.Mark.{Mark}
 use Rattle.formula_text.specs.declared.sign.Mark.TheVariants.{And, Or, Arrow, Close, Left, Right}
 use Rattle.formula_text.specs.declared.sign.Sign.{Sign}
@@ -10,13 +12,26 @@ use Rattle.formula_text.specs.Tree.{leaf_form, prefix_form}
 -- what is read next: a level of the grammar, what may follow an operand, or what follows the path of an until
 pub data Part : Type 0 where
   formula : Part
-  or : Part
-  and : Part
+  chain_of : Chain → Part
   unary : Part
-  or_more : Form → Part
-  and_more : Form → Part
+  goes_on : Chain → Form → Part
   group : Part
   wait : Bool → Part
+
+-- the mark of a chain's operator
+abbrev pub chain_mark : Chain → Mark
+chain_mark Disjunction = Or
+chain_mark Conjunction = And
+
+-- two formulas under it
+abbrev pub chained : Chain → Form → Form → Form
+chained Disjunction f g = either f g
+chained Conjunction f g = both f g
+
+-- what stands between two of its operators
+abbrev pub operand : Chain → Part
+operand Disjunction = chain_of Conjunction
+operand Conjunction = unary
 
 -- a formula, and the signs that are left
 abbrev pub Found : Type 0
@@ -59,12 +74,10 @@ unary_at read _ = None
 
 unfoldable pub parse : ℕ → Part → List Sign → Option Found
 parse zero part ss = None
-parse (suc n) formula ss = parse n or ss >>= λ f. pick (past Arrow f.1) (Some f) (λ rest. parse n formula rest >>= λ g. Some (implies f.0 g.0, g.1))
-parse (suc n) or ss = parse n and ss >>= λ f. parse n (or_more f.0) f.1
-parse (suc n) and ss = parse n unary ss >>= λ f. parse n (and_more f.0) f.1
+parse (suc n) formula ss = parse n (chain_of Disjunction) ss >>= λ f. pick (past Arrow f.1) (Some f) (λ rest. parse n formula rest >>= λ g. Some (implies f.0 g.0, g.1))
+parse (suc n) (chain_of c) ss = parse n (operand c) ss >>= λ f. parse n (goes_on c f.0) f.1
 parse (suc n) unary ss = unary_at (parse n) ss
-parse (suc n) (or_more f) ss = pick (past Or ss) (Some (f, ss)) (λ rest. parse n and rest >>= λ g. parse n (or_more (either f g.0)) g.1)
-parse (suc n) (and_more f) ss = pick (past And ss) (Some (f, ss)) (λ rest. parse n unary rest >>= λ g. parse n (and_more (both f g.0)) g.1)
+parse (suc n) (goes_on c f) ss = pick (past (chain_mark c) ss) (Some (f, ss)) (λ rest. parse n (operand c) rest >>= λ g. parse n (goes_on c (chained c f g.0)) g.1)
 parse (suc n) group ss = parse n formula ss >>= λ f. past Close f.1 >>= λ rest. Some (f.0, rest)
 parse (suc n) (wait all) ss =
     past Left ss >>= λ rest. parse n formula rest >>= λ f. past_until f.1 >>= λ w. parse n formula w.1 >>= λ g. past Right g.1 >>= λ rest. Some (until all w.0 f.0 g.0, rest)

@@ -7,14 +7,14 @@ use Rattle.ctl_text.proofs.clause.clause_of.Goals as goal
 
 pub returns-in-Ok-clause-clause : goal.returns-in-Ok-clause-clause
 returns-in-Ok-clause-clause c =
-    let a = rw c.deref.ensures.value at c.locals_at-a.ensures.locals in
-    let b = rw c.deref-in-InKind.ensures.value at c.locals_at-b.ensures.locals in
+    let a = rw c.roles.ensures at c.locals_at-a.ensures.locals in
+    let b = rw c.roles-in-InKind.ensures at c.locals_at-b.ensures.locals in
     let k : PairSpec = record { name = c.in-InKind.name; role_a = c.in-InKind.role_a; role_b = c.in-InKind.role_b; clauses = map form_of c.in-InKind.clauses.items } in
     rw c.in-InKind.is (clause_made (state_of c.args.reader.now).parts k _ _ _ _ a b c.in-Ok.ensures.spelled)
 
 pub returns-in-Err-clause-refused : goal.returns-in-Err-clause-refused
 returns-in-Err-clause-refused c =
-    let a = rw c.deref.ensures.value at c.locals_at-a.ensures.locals in
-    let b = rw c.deref-in-InKind.ensures.value at c.locals_at-b.ensures.locals in
+    let a = rw c.roles.ensures at c.locals_at-a.ensures.locals in
+    let b = rw c.roles-in-InKind.ensures at c.locals_at-b.ensures.locals in
     let k : PairSpec = record { name = c.in-InKind.name; role_a = c.in-InKind.role_a; role_b = c.in-InKind.role_b; clauses = map form_of c.in-InKind.clauses.items } in
     rw c.in-InKind.is (clause_refused (state_of c.args.reader.now).parts k _ _ _ _ a b c.in-Err.ensures.refused)

@@ -6,6 +6,6 @@ use Rattle.ctl_text.proofs.read.made_of.Goals as goal
 
 pub make-requires : goal.make-requires
 make-requires c =
-    let net : NetworkParts = record { roles = c.args.roles.items; ends = kind_ends c.args.kinds.items; processes = c.args.processes.items; edges = c.args.edges.items } in
+    let net : NetworkParts = record { roles = c.args.pairs.roles; ends = kind_ends c.args.pairs.kinds; processes = c.args.processes.items; edges = c.args.edges.items } in
     let lawful = c.requires.lawful in
     let few = few_edges net 32 lawful lawful.degrees in omega (arith, few, lawful.few_processes)

@@ -1,0 +1,21 @@
+use Rattle.std.proofs.Common.{map, ap}
+use Rattle.pair_structure.specs.Role.{RoleParts}
+use Rattle.ctl_form.specs.declared.pair_spec.PairSpec.{PairSpec}
+use Rattle.ctl_form.specs.Form.{form_of}
+use Rattle.ctl_text.specs.inside.View.{state_of}
+use Rattle.ctl_text.proofs.SaidTaken.{role_ended, with_clauses, kind_ended}
+use Rattle.ctl_text.proofs.ended.take_end.Goals as goal
+
+pub returns-in_ok-reader-in-InArcs-clause-taken : goal.returns-in_ok-reader-in-InArcs-clause-taken
+returns-in_ok-reader-in-InArcs-clause-taken c =
+    let r : RoleParts = record { name = c.in-InArcs.name; locals = c.in-InArcs.locals.items; start = c.in-InArcs.start; arcs = c.in-InArcs.arcs.items } in
+    let sound = rw c.in-InArcs.is at c.requires.sound in
+    rw c.in-InArcs.is (role_ended (state_of c.args.reader).parts r c.in_ok-reader-in-InArcs.field-0 sound c.in_ok-reader-in-InArcs.ensures.free c.in_ok-reader-in-InArcs.ensures.grown)
+
+pub returns-in_ok-reader-in-InKind-clause-taken : goal.returns-in_ok-reader-in-InKind-clause-taken
+returns-in_ok-reader-in-InKind-clause-taken c =
+    let k : PairSpec = record { name = c.in-InKind.name; role_a = c.in-InKind.role_a; role_b = c.in-InKind.role_b; clauses = map form_of c.in-InKind.clauses.items } in
+    let made : PairSpec = record { name = c.in-InKind.name; role_a = c.in-InKind.role_a; role_b = c.in-InKind.role_b; clauses = c.from_vec-clauses.result } in
+    let same = ap (with_clauses c.in-InKind.name c.in-InKind.role_a c.in-InKind.role_b) c.from_vec-clauses.ensures in
+    let sound = rw c.in-InKind.is at c.requires.sound in
+    rw c.in-InKind.is (kind_ended (state_of c.args.reader).parts k made c.in_ok-reader-in-InKind.field-0 same sound c.in_ok-reader-in-InKind.ensures.free c.in_ok-reader-in-InKind.ensures.grown)

@@ -1,9 +1,0 @@
-use Rattle.std.proofs.Common.{sym}
-use Rattle.ctl_text.proofs.LineLaws.{word_cut, last_word}
-use Rattle.ctl_text.proofs.line.cut_word.Goals as goal
-
-pub returns-in-Some-clause-cut : goal.returns-in-Some-clause-cut
-returns-in-Some-clause-cut c = let e = word_cut c.args.bytes.now c.in-Some.end c.requires (sym c.in-Some.ensures.end) in let f = e.1 in cc
-
-pub returns-in-None-clause-cut : goal.returns-in-None-clause-cut
-returns-in-None-clause-cut c = let e = last_word c.args.bytes.now c.requires (sym c.in-None.ensures.end) in let f = e.1 in cc

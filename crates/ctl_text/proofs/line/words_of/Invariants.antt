@@ -1,9 +1,0 @@
-use Rattle.std.proofs.Common.{◌≡◌, map, length, ◌++◌}
-use Rattle.ctl_text.specs.Lines.{words_of}
-use Rattle.ctl_text.proofs.line.words_of.Given as goal
-
-abbrev pub invariant-loop-word : goal.invariant-loop-word
-invariant-loop-word l = words_of l.line ≡ map (λ w. w.now) l.words.items ++ words_of l.rest
-
-abbrev pub decreases-loop-word : goal.decreases-loop-word
-decreases-loop-word l = length l.rest

@@ -1,0 +1,113 @@
+ghost use Rattle.std.specs.Prelude.{◌≡◌, ◌++◌, ◌∷◌, [], IfOk, IfErr, length};
+ghost use Rattle.ctl_form.specs.Numbered.{IsNormalOf};
+ghost use Rattle.text_cause.specs.Answers.{IsBadBy};
+ghost use Rattle.text_cause.specs.Cause.{IsFree};
+ghost use Rattle.ctl_text.specs.Item.{end_line};
+ghost use Rattle.ctl_text.specs.Normals.{conjuncts_of};
+ghost use Rattle.ctl_text.specs.SoundValue.{IsOverRoles};
+ghost use Rattle.ctl_text.specs.State.{MayStand, in_arcs};
+ghost use Rattle.ctl_text.specs.inside.Judged.{IsSaidTaken};
+ghost use Rattle.ctl_text.specs.inside.LineCause.{LineBlocks, RoleEndStands, KindEndStands};
+ghost use Rattle.ctl_text.specs.inside.Sound.{IsSound, IsSoundState};
+ghost use Rattle.ctl_text.specs.inside.View.{group_of, state_of};
+
+use crate::pairs::Pairs;
+use crate::place::{Place, Reader};
+use crate::role_cause::role_end_cause;
+use ctl_form::{Clauses, Normal, NormalFault, PairSpec, whole};
+use pair_structure::{LocalArc, Name, Role};
+use std::alloc::Global;
+use text_cause::{LineFault, TextCause};
+
+/// What stands below the end of the open role or kind: it is declared.
+pub(crate) fn take_end(alloc: Global, mut reader: Reader) -> Result<Reader, LineFault>
+    requires sound { IsSoundState (state_of reader) }
+    requires may { MayStand (group_of reader.place) end_line }
+    ensures taken { IfOk result (λ r. IsSaidTaken (state_of reader) end_line (state_of r)) }
+    ensures refused { IfErr result (IsBadBy (LineBlocks (state_of reader) end_line)) }
+{
+    let place = reader.place;
+    match place {
+        Place::InArcs {
+            name,
+            locals,
+            start,
+            arcs,
+        } => {
+            reader.place = Place::AmongRoles;
+            reader.pairs = with_ended_role(reader.pairs, name, locals, start, arcs)?;
+            Ok(reader)
+        }
+        Place::InKind {
+            name,
+            role_a,
+            role_b,
+            clauses,
+        } => {
+            let clauses = Clauses::from_vec(clauses);
+            let kind = PairSpec {
+                name,
+                role_a,
+                role_b,
+                clauses,
+            };
+            reader.place = Place::AmongKinds;
+            reader.pairs = with_ended_kind(alloc, reader.pairs, kind)?;
+            Ok(reader)
+        }
+        _ => unreachable!(),
+    }
+}
+
+/// With one role more, of these parts.
+fn with_ended_role(
+    pairs: Pairs,
+    name: Name,
+    locals: Vec<Name>,
+    start: u8,
+    arcs: Vec<LocalArc>,
+) -> Result<Pairs, LineFault>
+    requires { IsSound (in_arcs (record { name = name; locals = locals.items; start = start; arcs = arcs.items })) }
+    ensures grown { IfOk result (λ made. made ≡ record { roles = pairs.roles ++ record { name = name; locals = locals.items; start = start; arcs = arcs.items } ∷ []; kinds = pairs.kinds }) }
+    ensures free { IfOk result (λ made. IsFree (RoleEndStands locals.items arcs.items)) }
+    ensures refused { IfErr result (IsBadBy (RoleEndStands locals.items arcs.items)) }
+{
+    if let Some(cause) = role_end_cause(&locals, &arcs) {
+        return Err(LineFault::Bad(cause));
+    }
+    match Role::make(name, locals, start, arcs) {
+        Ok(role) => {
+            let pairs = pairs.with_role(role)?;
+            Ok(pairs)
+        }
+        Err(_) => unreachable!(),
+    }
+}
+
+/// With one kind more, whose normal form is made.
+fn with_ended_kind(alloc: Global, pairs: Pairs, kind: PairSpec) -> Result<Pairs, LineFault>
+    requires { IsOverRoles (length pairs.roles) kind }
+    ensures grown { IfOk result (λ made. made ≡ record { roles = pairs.roles; kinds = pairs.kinds ++ kind ∷ [] }) }
+    ensures free { IfOk result (λ made. IsFree (KindEndStands pairs.roles kind)) }
+    ensures refused { IfErr result (IsBadBy (KindEndStands pairs.roles kind)) }
+{
+    let normal = normal_of(alloc, pairs.roles(), &kind)?;
+    let pairs = pairs.with_kind(kind, normal)?;
+    Ok(pairs)
+}
+
+/// The normal form of the kind's conjuncts, if their closure is not too large. The clauses are copied for it.
+fn normal_of(alloc: Global, roles: &[Role], kind: &PairSpec) -> Result<Normal, LineFault>
+    requires { IsOverRoles (length roles.now) kind.now }
+    ensures normal { IfOk result (IsNormalOf (conjuncts_of roles.now kind.now)) }
+    ensures refused { IfErr result (IsBadBy (KindEndStands roles.now kind.now)) }
+{
+    let a = &roles[kind.role_a as usize];
+    let b = &roles[kind.role_b as usize];
+    let forms = whole(alloc, kind.clauses.as_slice(), a, b)?;
+    match Normal::of(alloc, &forms) {
+        Ok(normal) => Ok(normal),
+        Err(NormalFault::Over) => Err(LineFault::Bad(TextCause::ClosureOver)),
+        Err(NormalFault::Memory) => Err(LineFault::Memory),
+    }
+}
