@@ -6,7 +6,7 @@ use pair_structure::{Memory, Move, PairStructure};
 use std::alloc::Global;
 
 /// The states from which a move leads to each state, in one flat list: those of state t stand from `begins[t]` up to `begins[t + 1]`.
-#[derive(Debug, Drop)]
+#[derive(Drop)]
 pub(crate) struct Predecessors {
     pub(crate) begins: Vec<usize>,
     pub(crate) sources: Vec<u64>,
@@ -14,7 +14,7 @@ pub(crate) struct Predecessors {
 
 /// `ends` has for each state how many moves stand up to the last that leads to it; `before` has for each move the same of the moves before
 /// it that lead to the same state.
-#[derive(Debug, Drop)]
+#[derive(Drop)]
 struct Links {
     ends: Vec<usize>,
     before: Vec<usize>,

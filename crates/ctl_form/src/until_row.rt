@@ -12,7 +12,7 @@ use pair_structure::{Memory, Move, PairStructure};
 use std::alloc::Global;
 
 /// The marks so far, the marked states whose moves in are still to be followed, and for each state a cursor over its moves.
-#[derive(Debug, Drop)]
+#[derive(Drop)]
 struct Frontier {
     row: BitRow,
     work: Vec<u64>,
