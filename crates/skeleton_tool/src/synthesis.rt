@@ -38,7 +38,8 @@ fn answer_kinds(alloc: Global, spec: &Spec, text: &mut Vec<u8>) -> Result<Status
     ensures some { IfOk result (λ status. 0 < length text.new.items) }
 {
     let mut structures = Vec::new(alloc);
-    match solve_all(alloc, spec.network().roles(), spec.kinds(), &mut structures)? {
+    let roles = spec.network().roles();
+    match solve_all(alloc, roles, spec.kinds(), spec.normals(), &mut structures)? {
         None => {
             let sol = Solution::make(spec, structures);
             write_solution(alloc, spec, &sol, text)?;
