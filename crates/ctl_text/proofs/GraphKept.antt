@@ -13,8 +13,8 @@ use Rattle.interconnection.specs.Graph.{JoinSame, degree_of}
 use Rattle.interconnection.specs.Network.{AreLawful, AreRoles, HasRole, HasRoles, IsInRange, JoinsTwo, ends_of, role_of}
 use Rattle.ctl_text.specs.Value.{AreJoined, kind_ends, kind_at}
 use Rattle.ctl_text.specs.Cause.{IsCrowded}
-use Rattle.ctl_text.specs.inside.EdgeTable.{other_end, beside}
-use Rattle.ctl_text.proofs.EdgeTables.{beside-append, beside-length}
+use Rattle.interconnection.specs.inside.EdgeTable.{other_end, other_ends}
+use Rattle.interconnection.proofs.EdgeTables.{other_ends-append, other_ends-length}
 
 wider : (roles : List RoleParts) (r : RoleParts) (n : ℕ) → n < length roles → n < length (roles ++ r ∷ [])
 wider roles r n lt = omega (arith, lt, length-append roles (r ∷ []))
@@ -86,9 +86,9 @@ no_end a b k false false e f apart other = refl
 
 one_more : (edges : List Edge) (e : Edge) (k : ℕ) → degree_of (edges ++ e ∷ []) k ≡ degree_of edges k + length (other_end k e)
 one_more edges e k =
-    let before = beside-length edges k in
-    let after = beside-length (edges ++ e ∷ []) k in
-    let split = ap length (beside-append edges e k) ∙ length-append (beside edges k) (other_end k e) in omega (arith, before, after, split)
+    let before = other_ends-length edges k in
+    let after = other_ends-length (edges ++ e ∷ []) k in
+    let split = ap length (other_ends-append edges e k) ∙ length-append (other_ends edges k) (other_end k e) in omega (arith, before, after, split)
 
 -- a process that the edge joins has room for it
 pub degree_grown : (edges : List Edge) (e : Edge) (k : ℕ) → ((n : ℕ) → IsCrowded edges e.a e.b n → ⊥) → degree_of edges k ≤ MAX_NEIGHBOURS → degree_of (edges ++ e ∷ []) k ≤ MAX_NEIGHBOURS

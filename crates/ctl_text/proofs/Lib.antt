@@ -4,7 +4,6 @@ pub mod Clauses
 pub mod ClosureCount
 pub mod Crowded
 pub mod EdgeFits
-pub mod EdgeTables
 pub mod GraphAgain
 pub mod GraphKept
 pub mod ItemLaws
@@ -17,7 +16,6 @@ pub mod NameBytes
 pub mod Named
 pub mod NormalsKept
 pub mod Options
-pub mod Places
 pub mod RolesAgain
 pub mod SaidTaken
 pub mod SpecTexts

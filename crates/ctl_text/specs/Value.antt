@@ -1,11 +1,12 @@
 -- What a specification says, as a value.
-use Rattle.std.specs.Prelude.{ℕ, ◌≡◌, ◌⊎◌, List, [], map, position, Any, slice_index_or}
+use Rattle.std.specs.Prelude.{ℕ, List, [], map, position, slice_index_or}
 use Rattle.std.specs.Option.{unwrap_or}
 use Rattle.std.specs.Str.{bytes_eq}
 use Rattle.pair_structure.specs.Role.{RoleParts}
 use Rattle.ctl_form.specs.declared.pair_spec.PairSpec.{PairSpec}
 use Rattle.interconnection.specs.declared.parts.Process.{Process}
 use Rattle.interconnection.specs.declared.parts.Edge.{Edge}
+pub use Rattle.interconnection.specs.Graph.{AreJoined}
 use Rattle.interconnection.specs.Network.{NetworkParts}
 
 -- roles, kinds of pairs, processes and edges, each numbered by its place
@@ -35,10 +36,6 @@ process_names = map (λ p. p.name)
 -- the number of a name among these, and 0 where there is none
 abbrev pub number_in : List (List ℕ) → List ℕ → ℕ
 number_in names name = unwrap_or (position (λ x. bytes_eq x name) names) 0
-
--- some edge is between the two processes, whichever is its side a
-abbrev pub AreJoined : List Edge → ℕ → ℕ → Type 0
-AreJoined edges p q = Any (λ (e : Edge). ((e.a ≡ p) × (e.b ≡ q)) ⊎ ((e.a ≡ q) × (e.b ≡ p))) edges
 
 -- a kind by its number; past the end one over role 0
 abbrev pub kind_at : List PairSpec → ℕ → PairSpec

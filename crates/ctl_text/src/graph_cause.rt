@@ -4,11 +4,9 @@ ghost use Rattle.text_cause.specs.Cause.{IsLowest, IsFree};
 ghost use Rattle.ctl_text.specs.Cause.{IsCrowded, IsFirstCrowded, AreOfKind};
 ghost use Rattle.ctl_text.specs.inside.LineCause.{NameStands, KindStands, ProcessStands, JoinStands, EdgeStands};
 
-use crate::edges::Edges;
 use crate::names::{has_kind, has_process, has_role, kind_number, process_number};
-use crate::processes::Processes;
 use ctl_form::PairSpec;
-use interconnection::{MAX_KINDS, MAX_PROCESSES, Process};
+use interconnection::{Edges, MAX_KINDS, MAX_PROCESSES, Process, Processes};
 use pair_structure::Role;
 use text_cause::TextCause;
 

@@ -3,7 +3,6 @@
 
 mod added;
 mod clause;
-mod edges;
 mod ended;
 mod graph_cause;
 mod grown;
@@ -13,7 +12,6 @@ mod line;
 mod names;
 mod pairs;
 mod place;
-mod processes;
 mod read;
 mod role_cause;
 mod said;

@@ -3,8 +3,8 @@ ghost use Rattle.std.specs.Str.{bytes_eq};
 ghost use Rattle.pair_structure.specs.Name.{IsName};
 ghost use Rattle.ctl_text.specs.Value.{role_names, kind_names, process_names, number_in};
 
-use crate::processes::Processes;
 use ctl_form::PairSpec;
+use interconnection::Processes;
 use pair_structure::{Name, NameFault, Role};
 use std::alloc::{AllocError, Global};
 

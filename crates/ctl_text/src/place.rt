@@ -2,11 +2,10 @@ ghost use Rattle.std.specs.Prelude.{◌↔◌, IsTrue};
 ghost use Rattle.ctl_text.specs.State.{MayStand, among_kinds};
 ghost use Rattle.ctl_text.specs.inside.View.{group_of, said};
 
-use crate::edges::Edges;
 use crate::item::Item;
 use crate::pairs::Pairs;
-use crate::processes::Processes;
 use ctl_form::Formula;
+use interconnection::{Edges, Processes};
 use pair_structure::{LocalArc, Name};
 
 /// Which group of lines is open, with what an open role or kind has so far.

@@ -12,14 +12,12 @@ ghost use Rattle.text_cause.specs.Answers.{IsFaultAt};
 ghost use Rattle.ctl_text.specs.Answers.{IsRefusal};
 ghost use Rattle.ctl_text.specs.inside.Made.{value_of, IsWhole};
 
-use crate::edges::Edges;
 use crate::pairs::Pairs;
 use crate::place::{Place, Reader};
-use crate::processes::Processes;
 use crate::spec::Spec;
 use crate::take::take_line;
 use ctl_form::{Normal, PairSpec};
-use interconnection::{Edge, MAX_NEIGHBOURS, Network, NetworkFault, Process};
+use interconnection::{Edge, Edges, MAX_NEIGHBOURS, Network, NetworkFault, Process, Processes};
 use pair_structure::Memory;
 use std::alloc::Global;
 use strict_text::cut_line;

@@ -1,5 +1,5 @@
 -- The graph: edges between processes, who is beside whom, and what a process locks.
-use Rattle.std.specs.Prelude.{ℕ, ◌≡◌, ◌<◌, ◌==◌, ◌||◌, ◌⊎◌, ◌↔◌, Bool, List, length, AllPairs, Contains, count_by, slice_index_or}
+use Rattle.std.specs.Prelude.{ℕ, ◌≡◌, ◌<◌, ◌==◌, ◌||◌, ◌⊎◌, ◌↔◌, Bool, List, length, AllPairs, Any, Contains, count_by, slice_index_or}
 use Rattle.pair_structure.specs.declared.side.Side.{Side}
 use Rattle.pair_structure.specs.declared.side.Side.TheVariants.{A, B}
 pub use Rattle.pair_structure.specs.Sides.{opposite}
@@ -46,3 +46,7 @@ degree_of edges k = count_by (joins k) edges
 -- the two edges join the same two processes, in either direction
 abbrev pub JoinSame : Edge → Edge → Type 0
 JoinSame x y = ((x.a ≡ y.a) × (x.b ≡ y.b)) ⊎ ((x.a ≡ y.b) × (x.b ≡ y.a))
+
+-- some edge is between the two processes, whichever is its side a
+abbrev pub AreJoined : List Edge → ℕ → ℕ → Type 0
+AreJoined edges p q = Any (λ (e : Edge). ((e.a ≡ p) × (e.b ≡ q)) ⊎ ((e.a ≡ q) × (e.b ≡ p))) edges

@@ -4,6 +4,7 @@
 mod adjacency;
 mod copies;
 mod edge_check;
+mod edges;
 mod fault;
 mod laws;
 mod limits;
@@ -11,9 +12,12 @@ mod neighbourhood;
 mod network;
 mod part_check;
 mod parts;
+mod processes;
 
+pub use edges::Edges;
 pub use fault::NetworkFault;
 pub use laws::{few_edges, neighbours_are_mutual, stands_once_in_own_plan};
 pub use limits::{MAX_KINDS, MAX_NEIGHBOURS, MAX_PROCESSES, MAX_ROLES};
 pub use network::Network;
 pub use parts::{Beside, Edge, Process};
+pub use processes::Processes;

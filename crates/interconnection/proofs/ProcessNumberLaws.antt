@@ -16,7 +16,7 @@ use Rattle.std.specs.Ordering.{nat_cmp, eq_by_cmp}
 use Rattle.std.specs.Str.{bytes_eq}
 use Rattle.std.specs.declared.alloc.Global.{Global}
 use Rattle.interconnection.specs.declared.parts.Process.{Process}
-use Rattle.ctl_text.specs.inside.ProcessNumbers.{Kept, kept_at, or_number, AreNumbers, IsNumbered}
+use Rattle.interconnection.specs.inside.ProcessNumbers.{Kept, kept_at, or_number, AreNumbers, IsNumbered}
 
 -- the test of a name among the keys
 abbrev is_key : List ℕ → Vec ℕ Global → Bool

@@ -1,8 +1,8 @@
 use Rattle.std.proofs.Common.{◌≡◌, List, [], position, subst, ◌∙◌}
 use Rattle.std.specs.Str.{bytes_eq}
 use Rattle.interconnection.specs.declared.parts.Process.{Process}
-use Rattle.ctl_text.proofs.Places.{number_within}
-use Rattle.ctl_text.proofs.processes.Processes.find.Goals as goal
+use Rattle.interconnection.proofs.ProcessNumberLaws.{number_within}
+use Rattle.interconnection.proofs.processes.Processes.find.Goals as goal
 
 pub returns-clause-number : goal.returns-clause-number
 returns-clause-number c =

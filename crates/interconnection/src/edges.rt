@@ -1,15 +1,14 @@
 ghost use Rattle.std.specs.Prelude.{◌≡◌, ◌↔◌, ◌≤◌, ◌++◌, ◌∷◌, [], IsTrue, IfOk, Contains};
-ghost use Rattle.interconnection.specs.Graph.{degree_of};
-ghost use Rattle.ctl_text.specs.Value.{AreJoined};
+ghost use Rattle.interconnection.specs.Graph.{degree_of, AreJoined};
 
-use interconnection::{Edge, MAX_NEIGHBOURS};
+use crate::{Edge, MAX_NEIGHBOURS};
 use pair_structure::Lists;
 use std::alloc::{AllocError, Global};
 use std::marker::Model;
 
-/// The edges that are declared so far, to be found by their processes.
+/// A list of edges that grows, to be found by their processes. Contracts see it as the list.
 #[derive(Drop)]
-pub(crate) struct Edges {
+pub struct Edges {
     list: Vec<Edge>,
     beside: Lists<u32>,
 }
@@ -17,17 +16,18 @@ pub(crate) struct Edges {
 impl Model for Edges {
     ghost use Rattle.std.specs.Prelude.{List};
     ghost use Rattle.interconnection.specs.declared.parts.Edge.{Edge};
-    ghost use Rattle.ctl_text.specs.inside.EdgeTable.{IsBeside};
+    ghost use Rattle.interconnection.specs.inside.EdgeTable.{IsEdgeTable};
 
     ghost Value = { List Edge };
 
     ghost view = { λ e. e.list.items };
 
-    ghost invariant = { λ e. IsBeside e.list.items e.beside };
+    ghost invariant = { λ e. IsEdgeTable e.list.items e.beside };
 }
 
 impl Edges {
-    pub(crate) fn new(alloc: Global) -> Edges
+    /// No edge yet.
+    pub fn new(alloc: Global) -> Edges
         ensures { result ≡ [] }
     {
         Edges {
@@ -37,7 +37,7 @@ impl Edges {
     }
 
     /// The edges with one more.
-    pub(crate) fn with(self, alloc: Global, edge: Edge) -> Result<Edges, AllocError>
+    pub fn with(self, alloc: Global, edge: Edge) -> Result<Edges, AllocError>
         ensures { IfOk result (λ made. made ≡ self ++ edge ∷ []) }
     {
         let Edges {
@@ -53,21 +53,22 @@ impl Edges {
         Ok(Edges { list, beside })
     }
 
-    pub(crate) fn into_vec(self) -> Vec<Edge>
+    /// The edges, in the order that they came.
+    pub fn into_vec(self) -> Vec<Edge>
         ensures { result.items ≡ self }
     {
         self.list
     }
 
     /// Whether an edge is between the two processes. Linear in the edges of one.
-    pub(crate) fn are_joined(&self, p: u32, q: u32) -> bool
+    pub fn are_joined(&self, p: u32, q: u32) -> bool
         ensures { IsTrue result ↔ AreJoined self.now p q }
     {
         has(self.beside.list(p as usize), q)
     }
 
     /// Whether the process has `MAX_NEIGHBOURS` edges.
-    pub(crate) fn is_full(&self, process: u32) -> bool
+    pub fn is_full(&self, process: u32) -> bool
         ensures { IsTrue result ↔ (MAX_NEIGHBOURS ≤ degree_of self.now process) }
     {
         self.beside.list(process as usize).len() >= MAX_NEIGHBOURS

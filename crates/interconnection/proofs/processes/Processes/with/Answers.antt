@@ -1,6 +1,6 @@
 use Rattle.std.proofs.Common.{◌∙◌, arith}
-use Rattle.ctl_text.proofs.Places.{numbers_more}
-use Rattle.ctl_text.proofs.processes.Processes.with.Goals as goal
+use Rattle.interconnection.proofs.ProcessNumberLaws.{numbers_more}
+use Rattle.interconnection.proofs.processes.Processes.with.Goals as goal
 
 pub invariant_of-result : goal.invariant_of-result
 invariant_of-result c =

@@ -7,16 +7,16 @@ use Rattle.std.proofs.lemmas.List.Recursion.{is_count_by}
 use Rattle.interconnection.specs.declared.limits.TheConstants.{MAX_NEIGHBOURS}
 use Rattle.interconnection.specs.declared.parts.Edge.{Edge}
 use Rattle.interconnection.specs.Graph.{joins, degree_of}
-use Rattle.ctl_text.specs.Value.{AreJoined}
-use Rattle.ctl_text.specs.inside.EdgeTable.{other_end, beside, IsBeside}
+use Rattle.interconnection.specs.Graph.{AreJoined}
+use Rattle.interconnection.specs.inside.EdgeTable.{other_end, other_ends, IsEdgeTable}
 
 abbrev pub row : List (List ℕ) → ℕ → List ℕ
 row rows k = slice_index_or rows k []
 
 -- one edge more
-pub beside-append : (edges : List Edge) (e : Edge) (k : ℕ) → beside (edges ++ e ∷ []) k ≡ beside edges k ++ other_end k e
-beside-append [] e k = append-nil (other_end k e)
-beside-append (x ∷ edges) e k = ap (λ rest. other_end k x ++ rest) (beside-append edges e k) ∙ sym (append_assoc (other_end k x) (beside edges k) (other_end k e))
+pub other_ends-append : (edges : List Edge) (e : Edge) (k : ℕ) → other_ends (edges ++ e ∷ []) k ≡ other_ends edges k ++ other_end k e
+other_ends-append [] e k = append-nil (other_end k e)
+other_ends-append (x ∷ edges) e k = ap (λ rest. other_end k x ++ rest) (other_ends-append edges e k) ∙ sym (append_assoc (other_end k x) (other_ends edges k) (other_end k e))
 
 one_end : (a b : Bool) (x y : ℕ) (rest : List ℕ) → length (cond a (x ∷ []) (cond b (y ∷ []) []) ++ rest) ≡ cond (a || b) (1 + length rest) (length rest)
 one_end true b x y rest = omega arith
@@ -24,8 +24,8 @@ one_end false true x y rest = omega arith
 one_end false false x y rest = refl
 
 -- as many are beside a process as it has edges
-pub beside-length : (edges : List Edge) (k : ℕ) → length (beside edges k) ≡ degree_of edges k
-beside-length edges k = is_count_by (λ es. length (beside es k)) (joins k) refl (λ e es. one_end (e.a == k) (e.b == k) e.b e.a (beside es k)) edges
+pub other_ends-length : (edges : List Edge) (k : ℕ) → length (other_ends edges k) ≡ degree_of edges k
+other_ends-length edges k = is_count_by (λ es. length (other_ends es k)) (joins k) refl (λ e es. one_end (e.a == k) (e.b == k) e.b e.a (other_ends es k)) edges
 
 abbrev Joins : ℕ → ℕ → ℕ → ℕ → Type 0
 Joins a b p q = ((a ≡ p) × (b ≡ q)) ⊎ ((a ≡ q) × (b ≡ p))
@@ -46,21 +46,21 @@ join_ends a b p q false u e f (inl h) = absurd (let yes = eq-eqb a p h.0 in cc)
 join_ends a b p q false true e f (inr h) = (0, omega arith, h.0)
 join_ends a b p q false false e f (inr h) = absurd (let yes = eq-eqb b p h.1 in cc)
 
-pub beside_joined : (edges : List Edge) (p q : ℕ) → Contains (beside edges p) q → AreJoined edges p q
-beside_joined [] p q (i, lt, is) = absurd (omega arith)
-beside_joined (e ∷ edges) p q h = elim (Contains-append_cases (other_end p e) (beside edges p) q h) [
+pub other_ends_joined : (edges : List Edge) (p q : ℕ) → Contains (other_ends edges p) q → AreJoined edges p q
+other_ends_joined [] p q (i, lt, is) = absurd (omega arith)
+other_ends_joined (e ∷ edges) p q h = elim (Contains-append_cases (other_end p e) (other_ends edges p) q h) [
   | inl here ↦ (0, e, omega arith, refl, ends_join e.a e.b p q (e.a == p) (e.b == p) refl refl here)
-  | inr there ↦ further (beside_joined edges p q there)
+  | inr there ↦ further (other_ends_joined edges p q there)
 ]
   where
     further : AreJoined edges p q → AreJoined (e ∷ edges) p q
     further (i, x, lt, is, meet) = (suc i, x, omega arith, is, meet)
 
-pub joined_beside : (edges : List Edge) (p q : ℕ) → AreJoined edges p q → Contains (beside edges p) q
-joined_beside [] p q (i, x, lt, is, meet) = absurd (omega arith)
-joined_beside (e ∷ edges) p q (zero, x, lt, is, meet) =
-    Contains-append_left (other_end p e) (beside edges p) q (join_ends e.a e.b p q (e.a == p) (e.b == p) refl refl (subst (λ (x : Edge). Joins x.a x.b p q) (sym is) meet))
-joined_beside (e ∷ edges) p q (suc i, x, lt, is, meet) = Contains-append_right (other_end p e) (beside edges p) q (joined_beside edges p q (i, x, omega arith, is, meet))
+pub joined_other_ends : (edges : List Edge) (p q : ℕ) → AreJoined edges p q → Contains (other_ends edges p) q
+joined_other_ends [] p q (i, x, lt, is, meet) = absurd (omega arith)
+joined_other_ends (e ∷ edges) p q (zero, x, lt, is, meet) =
+    Contains-append_left (other_end p e) (other_ends edges p) q (join_ends e.a e.b p q (e.a == p) (e.b == p) refl refl (subst (λ (x : Edge). Joins x.a x.b p q) (sym is) meet))
+joined_other_ends (e ∷ edges) p q (suc i, x, lt, is, meet) = Contains-append_right (other_end p e) (other_ends edges p) q (joined_other_ends edges p q (i, x, omega arith, is, meet))
 
 one_more : (k a b : ℕ) (t u : Bool) (old new : List ℕ) → (a == k) ≡ t → (b == k) ≡ u → (a ≡ k → new ≡ old ++ b ∷ []) → ((a ≡ k → ⊥) → b ≡ k → new ≡ old ++ a ∷ []) → ((a ≡ k → ⊥) → (b ≡ k → ⊥) → new ≡ old) → new ≡ old ++ cond t (b ∷ []) (cond u (a ∷ []) [])
 one_more k a b true u old new e f first second other = first (eqb-true a k e)
@@ -68,29 +68,29 @@ one_more k a b false true old new e f first second other = second (λ same. let 
 one_more k a b false false old new e f first second other = other (λ same. let yes = eq-eqb a k same in cc) (λ same. let yes = eq-eqb b k same in cc) ∙ sym (append-nil old)
 
 -- an edge that joins a process with itself stands in its list once
-pub IsBeside-loop : (edges : List Edge) (e : Edge) (rows made : List (List ℕ)) → e.a ≡ e.b → IsBeside edges rows → row made e.a ≡ row rows e.a ++ e.b ∷ [] → ((k : ℕ) → (e.a ≡ k → ⊥) → row made k ≡ row rows k) → IsBeside (edges ++ e ∷ []) made
-IsBeside-loop edges e rows made same is here elsewhere k =
-    one_more k e.a e.b (e.a == k) (e.b == k) (beside edges k) (row made k) refl refl
-    (λ at. subst (λ k. row made k ≡ beside edges k ++ e.b ∷ []) at (here ∙ ap (λ r. r ++ e.b ∷ []) (is e.a)))
+pub IsEdgeTable-loop : (edges : List Edge) (e : Edge) (rows made : List (List ℕ)) → e.a ≡ e.b → IsEdgeTable edges rows → row made e.a ≡ row rows e.a ++ e.b ∷ [] → ((k : ℕ) → (e.a ≡ k → ⊥) → row made k ≡ row rows k) → IsEdgeTable (edges ++ e ∷ []) made
+IsEdgeTable-loop edges e rows made same is here elsewhere k =
+    one_more k e.a e.b (e.a == k) (e.b == k) (other_ends edges k) (row made k) refl refl
+    (λ at. subst (λ k. row made k ≡ other_ends edges k ++ e.b ∷ []) at (here ∙ ap (λ r. r ++ e.b ∷ []) (is e.a)))
     (λ apart at. absurd (apart (same ∙ at)))
-    (λ apart other. elsewhere k apart ∙ is k) ∙ sym (beside-append edges e k)
+    (λ apart other. elsewhere k apart ∙ is k) ∙ sym (other_ends-append edges e k)
 
 -- an edge between two processes stands in the list of each
-pub IsBeside-more : (edges : List Edge) (e : Edge) (rows between made : List (List ℕ)) → (e.a ≡ e.b → ⊥) → IsBeside edges rows
+pub IsEdgeTable-more : (edges : List Edge) (e : Edge) (rows between made : List (List ℕ)) → (e.a ≡ e.b → ⊥) → IsEdgeTable edges rows
     → row between e.a ≡ row rows e.a ++ e.b ∷ [] → ((k : ℕ) → (e.a ≡ k → ⊥) → row between k ≡ row rows k)
-    → row made e.b ≡ row between e.b ++ e.a ∷ [] → ((k : ℕ) → (e.b ≡ k → ⊥) → row made k ≡ row between k) → IsBeside (edges ++ e ∷ []) made
-IsBeside-more edges e rows between made differ is here elsewhere here2 elsewhere2 k =
-    one_more k e.a e.b (e.a == k) (e.b == k) (beside edges k) (row made k) refl refl
-    (λ at. subst (λ k. row made k ≡ beside edges k ++ e.b ∷ []) at (elsewhere2 e.a (λ same. differ (sym same)) ∙ here ∙ ap (λ r. r ++ e.b ∷ []) (is e.a)))
-    (λ apart at. subst (λ k. row made k ≡ beside edges k ++ e.a ∷ []) at (here2 ∙ ap (λ r. r ++ e.a ∷ []) (elsewhere e.b differ ∙ is e.b)))
-    (λ apart other. elsewhere2 k other ∙ elsewhere k apart ∙ is k) ∙ sym (beside-append edges e k)
+    → row made e.b ≡ row between e.b ++ e.a ∷ [] → ((k : ℕ) → (e.b ≡ k → ⊥) → row made k ≡ row between k) → IsEdgeTable (edges ++ e ∷ []) made
+IsEdgeTable-more edges e rows between made differ is here elsewhere here2 elsewhere2 k =
+    one_more k e.a e.b (e.a == k) (e.b == k) (other_ends edges k) (row made k) refl refl
+    (λ at. subst (λ k. row made k ≡ other_ends edges k ++ e.b ∷ []) at (elsewhere2 e.a (λ same. differ (sym same)) ∙ here ∙ ap (λ r. r ++ e.b ∷ []) (is e.a)))
+    (λ apart at. subst (λ k. row made k ≡ other_ends edges k ++ e.a ∷ []) at (here2 ∙ ap (λ r. r ++ e.a ∷ []) (elsewhere e.b differ ∙ is e.b)))
+    (λ apart other. elsewhere2 k other ∙ elsewhere k apart ∙ is k) ∙ sym (other_ends-append edges e k)
 
 -- two processes are joined where one is in the list of the other
-pub are_joined_from : (edges now : List Edge) (rows : List (List ℕ)) (p q : ℕ) (list : List ℕ) (has : Bool) → edges ≡ now → IsBeside edges rows → list ≡ row rows p → IsTrue has ↔ Contains list q → IsTrue has ↔ AreJoined now p q
+pub are_joined_from : (edges now : List Edge) (rows : List (List ℕ)) (p q : ℕ) (list : List ℕ) (has : Bool) → edges ≡ now → IsEdgeTable edges rows → list ≡ row rows p → IsTrue has ↔ Contains list q → IsTrue has ↔ AreJoined now p q
 are_joined_from edges now rows p q list has view is list_is told =
-    let here : list ≡ beside edges p = list_is ∙ is p in (
-      λ t. subst (λ (es : List Edge). AreJoined es p q) view (beside_joined edges p q (subst (λ l. Contains l q) here (told.0 t))),
-      λ h. told.1 (subst (λ l. Contains l q) (sym here) (joined_beside edges p q (subst (λ (es : List Edge). AreJoined es p q) (sym view) h))),
+    let here : list ≡ other_ends edges p = list_is ∙ is p in (
+      λ t. subst (λ (es : List Edge). AreJoined es p q) view (other_ends_joined edges p q (subst (λ l. Contains l q) here (told.0 t))),
+      λ h. told.1 (subst (λ l. Contains l q) (sym here) (joined_other_ends edges p q (subst (λ (es : List Edge). AreJoined es p q) (sym view) h))),
     )
 
 tested_le : (n : ℕ) → nat_le MAX_NEIGHBOURS n ≡ true → MAX_NEIGHBOURS ≤ n
@@ -100,7 +100,7 @@ le_tested : (n : ℕ) → MAX_NEIGHBOURS ≤ n → nat_le MAX_NEIGHBOURS n ≡ t
 le_tested n le = grind (arith, nat_tests)
 
 -- a process has MAX_NEIGHBOURS edges where its list is so long
-pub is_full_from : (edges now : List Edge) (rows : List (List ℕ)) (k : ℕ) (list : List ℕ) → edges ≡ now → IsBeside edges rows → list ≡ row rows k → IsTrue (nat_le MAX_NEIGHBOURS (length list)) ↔ (MAX_NEIGHBOURS ≤ degree_of now k)
+pub is_full_from : (edges now : List Edge) (rows : List (List ℕ)) (k : ℕ) (list : List ℕ) → edges ≡ now → IsEdgeTable edges rows → list ≡ row rows k → IsTrue (nat_le MAX_NEIGHBOURS (length list)) ↔ (MAX_NEIGHBOURS ≤ degree_of now k)
 is_full_from edges now rows k list view is list_is =
-    let many : length list ≡ degree_of now k = ap (λ (l : List ℕ). length l) (list_is ∙ is k) ∙ beside-length edges k ∙ ap (λ (es : List Edge). degree_of es k) view in
+    let many : length list ≡ degree_of now k = ap (λ (l : List ℕ). length l) (list_is ∙ is k) ∙ other_ends-length edges k ∙ ap (λ (es : List Edge). degree_of es k) view in
     (λ t. subst (λ n. MAX_NEIGHBOURS ≤ n) many (tested_le (length list) t), λ h. le_tested (length list) (subst (λ n. MAX_NEIGHBOURS ≤ n) (sym many) h))

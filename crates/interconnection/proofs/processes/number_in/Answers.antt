@@ -1,6 +1,6 @@
 use Rattle.std.proofs.Common.{◌++◌, sym, ap, ◌∙◌}
-use Rattle.ctl_text.proofs.Places.{numbered}
-use Rattle.ctl_text.proofs.processes.number_in.Goals as goal
+use Rattle.interconnection.proofs.ProcessNumberLaws.{numbered}
+use Rattle.interconnection.proofs.processes.number_in.Goals as goal
 
 pub returns : goal.returns
 returns c =

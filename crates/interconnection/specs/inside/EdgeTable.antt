@@ -7,10 +7,10 @@ abbrev pub other_end : ℕ → Edge → List ℕ
 other_end k e = if e.a == k then e.b ∷ [] else if e.b == k then e.a ∷ [] else []
 
 -- the processes at the other ends of its edges, in the order of the edges
-abbrev pub beside : List Edge → ℕ → List ℕ
-beside [] k = []
-beside (e ∷ edges) k = other_end k e ++ beside edges k
+abbrev pub other_ends : List Edge → ℕ → List ℕ
+other_ends [] k = []
+other_ends (e ∷ edges) k = other_end k e ++ other_ends edges k
 
 -- each process has the list of those beside it
-abbrev pub IsBeside : List Edge → List (List ℕ) → Type 0
-IsBeside edges rows = (k : ℕ) → slice_index_or rows k [] ≡ beside edges k
+abbrev pub IsEdgeTable : List Edge → List (List ℕ) → Type 0
+IsEdgeTable edges rows = (k : ℕ) → slice_index_or rows k [] ≡ other_ends edges k

@@ -1,15 +1,15 @@
 ghost use Rattle.std.specs.Prelude.{◌≡◌, ◌<◌, ◌++◌, ◌∷◌, [], IfSome, IfOk, OnOk, length, position};
 ghost use Rattle.std.specs.Str.{bytes_eq};
-ghost use Rattle.ctl_text.specs.inside.ProcessNumbers.{IsNumbered};
+ghost use Rattle.interconnection.specs.inside.ProcessNumbers.{IsNumbered};
 
-use interconnection::Process;
+use crate::Process;
 use std::alloc::{AllocError, Global};
 use std::collections::BTreeMap;
 use std::marker::Model;
 
-/// The processes that are declared so far, to be found by their names.
+/// A list of processes that grows, to be found by their names. Contracts see it as the list.
 #[derive(Drop)]
-pub(crate) struct Processes {
+pub struct Processes {
     list: Vec<Process>,
     numbers: BTreeMap<Vec<u8>, usize>,
 }
@@ -17,7 +17,7 @@ pub(crate) struct Processes {
 impl Model for Processes {
     ghost use Rattle.std.specs.Prelude.{List};
     ghost use Rattle.interconnection.specs.declared.parts.Process.{Process};
-    ghost use Rattle.ctl_text.specs.inside.ProcessNumbers.{AreNumbers};
+    ghost use Rattle.interconnection.specs.inside.ProcessNumbers.{AreNumbers};
 
     ghost Value = { List Process };
 
@@ -27,7 +27,8 @@ impl Model for Processes {
 }
 
 impl Processes {
-    pub(crate) fn new(alloc: Global) -> Processes
+    /// No process yet.
+    pub fn new(alloc: Global) -> Processes
         ensures { result ≡ [] }
     {
         Processes {
@@ -36,14 +37,15 @@ impl Processes {
         }
     }
 
-    pub(crate) fn as_slice(&self) -> &[Process]
+    /// The processes, in the order that they came.
+    pub fn as_slice(&self) -> &[Process]
         ensures { result.now ≡ self.now }
     {
         &self.list
     }
 
-    /// The processes with one more.
-    pub(crate) fn with(self, alloc: Global, process: Process) -> Result<Processes, AllocError>
+    /// The processes with one more. Logarithmic in their count; the name is copied.
+    pub fn with(self, alloc: Global, process: Process) -> Result<Processes, AllocError>
         ensures { IfOk result (λ made. made ≡ self ++ process ∷ []) }
     {
         let Processes {
@@ -60,14 +62,15 @@ impl Processes {
         Ok(Processes { list, numbers })
     }
 
-    pub(crate) fn into_vec(self) -> Vec<Process>
+    /// The same, as a list of its own.
+    pub fn into_vec(self) -> Vec<Process>
         ensures { result.items ≡ self }
     {
         self.list
     }
 
-    /// The number of the first process of this name.
-    pub(crate) fn find(&self, name: &[u8]) -> Option<usize>
+    /// The number of the first process of this name. Logarithmic in the count of processes.
+    pub fn find(&self, name: &[u8]) -> Option<usize>
         ensures number { result ≡ position (λ p. bytes_eq p.name name.now) self.now }
         ensures within { IfSome result (λ n. n < length self.now) }
     {
