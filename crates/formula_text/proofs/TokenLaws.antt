@@ -1,9 +1,8 @@
 -- How far a token goes, and the tokens of one word more.
-use Rattle.std.proofs.Common.{ℕ, zero, suc, ◌≡◌, ◌<◌, ◌≤◌, ◌+◌, ◌-◌, true, false, List, [], ◌∷◌, length, get_or, drop, refl, arith, ap, ◌∙◌, subst, inl, inr, map, ◌++◌, sym, append_assoc}
+use Rattle.std.proofs.Common.{ℕ, zero, suc, ◌≡◌, ◌<◌, ◌≤◌, ◌+◌, ◌-◌, true, List, [], ◌∷◌, length, get_or, drop, refl, arith, ap, ◌∙◌, subst, inl, inr, map, ◌++◌, sym, append_assoc}
 use Rattle.std.proofs.lemmas.Bool.{cases_lt}
 use Rattle.std.proofs.lemmas.Bool.Decides.{nat_tests}
 use Rattle.std.specs.List.{flat_map}
-use Rattle.strict_text.specs.Pieces.{is_space}
 use Rattle.strict_text.proofs.PieceLaws.{PartsAtSpaces}
 use Rattle.formula_text.specs.Token.{tokens_of, are_joined}
 
