@@ -5,8 +5,6 @@ use Rattle.std.proofs.lemmas.List.Elements.{All-push}
 use Rattle.pair_structure.specs.Parts.{role_at}
 use Rattle.pair_structure.specs.Role.{RoleParts}
 use Rattle.ctl_form.specs.declared.pair_spec.PairSpec.{PairSpec}
-use Rattle.ctl_form.specs.Form.{Form}
-use Rattle.ctl_form.specs.Kind.{whole_forms}
 use Rattle.ctl_form.specs.NormalParts.{NormalParts}
 use Rattle.ctl_form.specs.Numbered.{IsNormalOf}
 use Rattle.ctl_text.specs.Normals.{conjuncts_of, AreNormals}

@@ -4,7 +4,6 @@ use Rattle.interconnection.specs.declared.limits.TheConstants.{MAX_ROLES}
 use Rattle.pair_structure.specs.Role.{RoleParts}
 use Rattle.ctl_form.specs.Form.{Form}
 use Rattle.ctl_form.specs.declared.pair_spec.PairSpec.{PairSpec}
-use Rattle.interconnection.specs.declared.parts.Process.{Process}
 use Rattle.text_cause.specs.Cause.{IsFree}
 use Rattle.ctl_text.specs.Item.{Said, head_line, role_line, kind_line, end_line, process_line, edge_line, done_line}
 use Rattle.ctl_text.specs.State.{State, Group, among_roles, in_locals, in_arcs, among_kinds, in_kind, after_done, opened_kind, after}
