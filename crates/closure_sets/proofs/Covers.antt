@@ -11,7 +11,7 @@ use Rattle.closure_sets.specs.Expansion.{later_rows, ways, lowest, is_open, fini
 use Rattle.closure_sets.specs.Full.{Among}
 use Rattle.closure_sets.specs.Label.{part_of}
 use Rattle.closure_sets.specs.Row.{Members, add}
-use Rattle.closure_sets.proofs.Sets.{both_false, add_keeps, add_same, add_back, pick_case, among_map, among_of, IsLowest, lowest_is, untreated, untreated_less, all_treated, untreated_all}
+use Rattle.closure_sets.proofs.Sets.{both_false, add_keeps, add_same, add_back, if_cases, among_map, among_of, IsLowest, lowest_is, untreated, untreated_less, all_treated, untreated_all}
 
 -- what truth at one state gives of each member; chosen: the side of an E until that is true and not met
 pub record IsTruth (c : ClosureParts) (easy : ℕ → Bool) (clash : Members → Bool) (chosen : ℕ → Side) (Is : ℕ → Type 0) : Type 0 where
@@ -65,9 +65,9 @@ module _ (c : ClosureParts) (easy : ℕ → Bool) (clash : Members → Bool) (ch
   met_other row treated m there not_until h = met_treat row treated m there (λ f g all weak p. absurd (not_until f g all weak p)) (λ f g weak p. absurd (not_until f g false weak p)) h
 
   either_met : (row treated : Members) (m f g : ℕ) → row m ≡ true → part_of c m ≡ Either f g → IsMet c chosen Is row treated → Is f ⊎ Is g → Among (λ r. IsMet c chosen Is r (add treated m)) (ways c easy row m (Either f g))
-  either_met row treated m f g there p h is = pick_case (Among (λ r. IsMet c chosen Is r (add treated m))) (row f || row g) (row ∷ []) _ (λ _. inl (met_other row treated m there other h))
-      (λ _. pick_case (Among (λ r. IsMet c chosen Is r (add treated m))) (easy f) (add row f ∷ []) _ (λ e. inl (with f (t.plain f e)))
-      (λ _. pick_case (Among (λ r. IsMet c chosen Is r (add treated m))) (easy g) (add row g ∷ []) _ (λ e. inl (with g (t.plain g e)))
+  either_met row treated m f g there p h is = if_cases (Among (λ r. IsMet c chosen Is r (add treated m))) (row f || row g) (row ∷ []) _ (λ _. inl (met_other row treated m there other h))
+      (λ _. if_cases (Among (λ r. IsMet c chosen Is r (add treated m))) (easy f) (add row f ∷ []) _ (λ e. inl (with f (t.plain f e)))
+      (λ _. if_cases (Among (λ r. IsMet c chosen Is r (add treated m))) (easy g) (add row g ∷ []) _ (λ e. inl (with g (t.plain g e)))
       (λ _. elim is [ inl x ↦ inl (with f x) | inr y ↦ inr (inl (with g y)) ])))
     where
       other : (f' g' : ℕ) (all weak : Bool) → part_of c m ≡ Until all weak f' g' → ⊥
@@ -112,8 +112,8 @@ module _ (c : ClosureParts) (easy : ℕ → Bool) (clash : Members → Bool) (ch
       by_side B e = inr (inl (one B e))
 
   until_met : (row treated : Members) (m f g : ℕ) (all weak : Bool) → row m ≡ true → part_of c m ≡ Until all weak f g → IsMet c chosen Is row treated → Is g ⊎ (Is g → ⊥) → Among (λ r. IsMet c chosen Is r (add treated m)) (ways c easy row m (Until all weak f g))
-  until_met row treated m f g all weak there p h d = pick_case (Among (λ r. IsMet c chosen Is r (add treated m))) (row g) (row ∷ []) _ (λ has. inl (with_goal row treated m f g all weak there has p h))
-      (λ _. pick_case (Among (λ r. IsMet c chosen Is r (add treated m))) (easy g) (add row g ∷ []) _ (λ e. inl (now (t.plain g e)))
+  until_met row treated m f g all weak there p h d = if_cases (Among (λ r. IsMet c chosen Is r (add treated m))) (row g) (row ∷ []) _ (λ has. inl (with_goal row treated m f g all weak there has p h))
+      (λ _. if_cases (Among (λ r. IsMet c chosen Is r (add treated m))) (easy g) (add row g ∷ []) _ (λ e. inl (now (t.plain g e)))
       (λ _. elim d [ inl y ↦ inl (now y) | inr none ↦ inr (later_met row treated m f g all weak there p h none) ]))
     where
       now : Is g → IsMet c chosen Is (add row g) (add treated m)
@@ -147,15 +147,15 @@ module _ (c : ClosureParts) (easy : ℕ → Bool) (clash : Members → Bool) (ch
       old i f g all weak p (inl e) = absurd (let q : part_of c (some_move c side) ≡ Next false side (some side).0 = (some side).1 in let r : part_of c (some_move c side) ≡ Until all weak f g = subst (λ k. part_of c k ≡ Until all weak f g) e p in cc)
 
   finish_met : (row : Members) → IsMetRow c chosen Is row → Among (IsMetRow c chosen Is) (finish c row)
-  finish_met row h = pick_case (Among (IsMetRow c chosen Is)) (row (some_move c A) || row (some_move c B)) (row ∷ []) _ (λ _. inl h) (λ _. elim t.onward [ inl x ↦ inl (with_some row A x h) | inr y ↦ inr (inl (with_some row B y h)) ])
+  finish_met row h = if_cases (Among (IsMetRow c chosen Is)) (row (some_move c A) || row (some_move c B)) (row ∷ []) _ (λ _. inl h) (λ _. elim t.onward [ inl x ↦ inl (with_some row A x h) | inr y ↦ inr (inl (with_some row B y h)) ])
 
   at_lowest_met : (row treated : Members) (o : Option ℕ) (f : ℕ → List Members) → IsLowest (count c) (is_open row treated) o → IsMet c chosen Is row treated → ((m : ℕ) → m < count c → row m ≡ true → treated m ≡ false → Among (IsMetRow c chosen Is) (f m)) → Among (IsMetRow c chosen Is) (at_lowest o (finish c row) f)
   at_lowest_met row treated None f l h go = finish_met row (whole row treated (λ i lt e. both_false (row i) (treated i) (l i lt) e) h)
   at_lowest_met row treated (Some m) f l h go = let u = and_parts (row m) (not (treated m)) l.1 in go m l.0 u.0 (not-true (treated m) u.1)
 
   expand_met : (d : ℕ) (row treated : Members) → untreated (count c) treated ≤ d → IsMet c chosen Is row treated → Among (IsMetRow c chosen Is) (expand c easy clash d row treated)
-  expand_met zero row treated le h = pick_case (Among (IsMetRow c chosen Is)) (clash row) [] _ (λ bad. absurd (t.consistent row h.holds bad)) (λ _. finish_met row (whole row treated (λ i lt _. all_treated (count c) treated le i lt) h))
-  expand_met (suc d) row treated le h = pick_case (Among (IsMetRow c chosen Is)) (clash row) [] _ (λ bad. absurd (t.consistent row h.holds bad))
+  expand_met zero row treated le h = if_cases (Among (IsMetRow c chosen Is)) (clash row) [] _ (λ bad. absurd (t.consistent row h.holds bad)) (λ _. finish_met row (whole row treated (λ i lt _. all_treated (count c) treated le i lt) h))
+  expand_met (suc d) row treated le h = if_cases (Among (IsMetRow c chosen Is)) (clash row) [] _ (λ bad. absurd (t.consistent row h.holds bad))
       (λ _. at_lowest_met row treated (lowest (count c) (is_open row treated)) _ (lowest_is (count c) (is_open row treated)) h
       (λ m lt there fresh. among_of (IsMetRow c chosen Is) (λ r. expand c easy clash d r (add treated m)) (ways c easy row m (part_of c m)) (among_map (λ r. IsMet c chosen Is r (add treated m)) (λ r. Among (IsMetRow c chosen Is) (expand c easy clash d r (add treated m))) (ways c easy row m (part_of c m)) (λ r k. expand_met d r (add treated m) (omega (arith, untreated_less (count c) treated m lt fresh)) k) (ways_met row treated m (part_of c m) there refl h))))
 

@@ -10,7 +10,7 @@ use Rattle.closure_sets.specs.Expansion.{later_rows, ways, lowest, is_open, rows
 use Rattle.closure_sets.specs.Full.{Has, MeetsPart, EachRow, IsExpansion}
 use Rattle.closure_sets.specs.Label.{part_of, is_wrong, wrong_of}
 use Rattle.closure_sets.specs.Row.{Members, add}
-use Rattle.closure_sets.proofs.Sets.{both_false, add_keeps, add_same, add_back, pick_case, IsLowest, lowest_is, untreated, untreated_less, all_treated, untreated_all}
+use Rattle.closure_sets.proofs.Sets.{both_false, add_keeps, add_same, add_back, if_cases, IsLowest, lowest_is, untreated, untreated_less, all_treated, untreated_all}
 
 abbrev Within : Members → Members → Type 0
 Within row row' = (i : ℕ) → Has row i → Has row' i
@@ -85,15 +85,15 @@ module _ (c : ClosureParts) (label : ℕ × ℕ) (easy : ℕ → Bool) (clash : 
 
   ways_done : (row treated : Members) (m : ℕ) (part : Part) → Has row m → part_of c m ≡ part → IsDone c seed row treated → EachRow (λ r. IsDone c seed r (add treated m)) (ways c easy row m part)
   ways_done row treated m (Both f g) there p h = (treat row (add (add row f) g) treated m there (λ i e. add_keeps (add row f) g i (add_keeps row f i e)) (subst (MeetsPart c (add (add row f) g) m) (sym p) (add_keeps (add row f) g f (add_same row f), add_same (add row f) g)) h, tt)
-  ways_done row treated m (Either f g) there p h = pick_case (EachRow (λ r. IsDone c seed r (add treated m))) (row f || row g) (row ∷ []) _ (λ e. (treat row row treated m there (λ i x. x) (subst (MeetsPart c row m) (sym p) (or_cases (row f) (row g) e)) h, tt))
-      (λ _. pick_case (EachRow (λ r. IsDone c seed r (add treated m))) (easy f) (add row f ∷ []) _ (λ _. (one f (inl (add_same row f)), tt))
-      (λ _. pick_case (EachRow (λ r. IsDone c seed r (add treated m))) (easy g) (add row g ∷ []) _ (λ _. (one g (inr (add_same row g)), tt))
+  ways_done row treated m (Either f g) there p h = if_cases (EachRow (λ r. IsDone c seed r (add treated m))) (row f || row g) (row ∷ []) _ (λ e. (treat row row treated m there (λ i x. x) (subst (MeetsPart c row m) (sym p) (or_cases (row f) (row g) e)) h, tt))
+      (λ _. if_cases (EachRow (λ r. IsDone c seed r (add treated m))) (easy f) (add row f ∷ []) _ (λ _. (one f (inl (add_same row f)), tt))
+      (λ _. if_cases (EachRow (λ r. IsDone c seed r (add treated m))) (easy g) (add row g ∷ []) _ (λ _. (one g (inr (add_same row g)), tt))
       (λ _. (one f (inl (add_same row f)), (one g (inr (add_same row g)), tt)))))
     where
       one : (k : ℕ) → Has (add row k) f ⊎ Has (add row k) g → IsDone c seed (add row k) (add treated m)
       one k e = treat row (add row k) treated m there (add_keeps row k) (subst (MeetsPart c (add row k) m) (sym p) e) h
-  ways_done row treated m (Until all weak f g) there p h = pick_case (EachRow (λ r. IsDone c seed r (add treated m))) (row g) (row ∷ []) _ (λ e. (treat row row treated m there (λ i x. x) (subst (MeetsPart c row m) (sym p) (has_goal c row m f g all weak e)) h, tt))
-      (λ _. pick_case (EachRow (λ r. IsDone c seed r (add treated m))) (easy g) (add row g ∷ []) _ (λ _. (now, tt)) (λ _. (now, later_done row treated m f g all weak there p h)))
+  ways_done row treated m (Until all weak f g) there p h = if_cases (EachRow (λ r. IsDone c seed r (add treated m))) (row g) (row ∷ []) _ (λ e. (treat row row treated m there (λ i x. x) (subst (MeetsPart c row m) (sym p) (has_goal c row m f g all weak e)) h, tt))
+      (λ _. if_cases (EachRow (λ r. IsDone c seed r (add treated m))) (easy g) (add row g ∷ []) _ (λ _. (now, tt)) (λ _. (now, later_done row treated m f g all weak there p h)))
     where
       now : IsDone c seed (add row g) (add treated m)
       now = treat row (add row g) treated m there (add_keeps row g) (subst (MeetsPart c (add row g) m) (sym p) (has_goal c (add row g) m f g all weak (add_same row g))) h
@@ -115,15 +115,15 @@ module _ (c : ClosureParts) (label : ℕ × ℕ) (easy : ℕ → Bool) (clash : 
       here B = inr (add_same row (some_move c B))
 
   finish_full : (row treated : Members) → AreRight c label row → AllTreated row treated → IsDone c seed row treated → EachRow (IsExpansion c label seed) (finish c row)
-  finish_full row treated fits all h = pick_case (EachRow (IsExpansion c label seed)) (row (some_move c A) || row (some_move c B)) (row ∷ []) _ (λ e. (record { seeded = h.seeded; full = record { meets = λ i lt x. h.meets i (all i lt x); onward = or_cases (row (some_move c A)) (row (some_move c B)) e }; literals = fits }, tt)) (λ _. (met_some row A fits h.seeded (λ i lt x. h.meets i (all i lt x)), (met_some row B fits h.seeded (λ i lt x. h.meets i (all i lt x)), tt)))
+  finish_full row treated fits all h = if_cases (EachRow (IsExpansion c label seed)) (row (some_move c A) || row (some_move c B)) (row ∷ []) _ (λ e. (record { seeded = h.seeded; full = record { meets = λ i lt x. h.meets i (all i lt x); onward = or_cases (row (some_move c A)) (row (some_move c B)) e }; literals = fits }, tt)) (λ _. (met_some row A fits h.seeded (λ i lt x. h.meets i (all i lt x)), (met_some row B fits h.seeded (λ i lt x. h.meets i (all i lt x)), tt)))
 
   at_lowest_full : (row treated : Members) (o : Option ℕ) (f : ℕ → List Members) → IsLowest (count c) (is_open row treated) o → AreRight c label row → IsDone c seed row treated → ((m : ℕ) → m < count c → Has row m → treated m ≡ false → EachRow (IsExpansion c label seed) (f m)) → EachRow (IsExpansion c label seed) (at_lowest o (finish c row) f)
   at_lowest_full row treated None f l fits h go = finish_full row treated fits (λ i lt e. both_false (row i) (treated i) (l i lt) e) h
   at_lowest_full row treated (Some m) f l fits h go = let u = and_parts (row m) (not (treated m)) l.1 in go m l.0 u.0 (not-true (treated m) u.1)
 
   expand_full : (d : ℕ) (row treated : Members) → untreated (count c) treated ≤ d → IsDone c seed row treated → EachRow (IsExpansion c label seed) (expand c easy clash d row treated)
-  expand_full zero row treated le h = pick_case (EachRow (IsExpansion c label seed)) (clash row) [] _ (λ _. tt) (λ e. finish_full row treated (right row e) (λ i lt _. all_treated (count c) treated le i lt) h)
-  expand_full (suc d) row treated le h = pick_case (EachRow (IsExpansion c label seed)) (clash row) [] _ (λ _. tt)
+  expand_full zero row treated le h = if_cases (EachRow (IsExpansion c label seed)) (clash row) [] _ (λ _. tt) (λ e. finish_full row treated (right row e) (λ i lt _. all_treated (count c) treated le i lt) h)
+  expand_full (suc d) row treated le h = if_cases (EachRow (IsExpansion c label seed)) (clash row) [] _ (λ _. tt)
       (λ e. at_lowest_full row treated (lowest (count c) (is_open row treated)) _ (lowest_is (count c) (is_open row treated)) (right row e) h
       (λ m lt there fresh. each_of (IsExpansion c label seed) (λ r. expand c easy clash d r (add treated m)) (ways c easy row m (part_of c m)) (each_map (λ r. IsDone c seed r (add treated m)) (λ r. EachRow (IsExpansion c label seed) (expand c easy clash d r (add treated m))) (ways c easy row m (part_of c m)) (λ r k. expand_full d r (add treated m) (omega (arith, untreated_less (count c) treated m lt fresh)) k) (ways_done row treated m (part_of c m) there refl h))))
 

@@ -1,7 +1,8 @@
 -- Rows noted one after another.
 use Rattle.std.proofs.Common.{ℕ, zero, suc, ◌≡◌, ◌-◌, inl, inr, Bool, false, Option, Some, None, List, [], ◌∷◌, ◌++◌, refl, subst, sym, ap, ◌∙◌, arith, append-nil}
 use Rattle.closure_sets.specs.ClosureParts.{ClosureParts, count}
-use Rattle.closure_sets.specs.Expansion.{expand, expansion, ways, lowest, is_open, clashes, pick, finish, at_lowest, rows_of, no_members}
+use Rattle.std.specs.Prelude.{if◌then◌else◌}
+use Rattle.closure_sets.specs.Expansion.{expand, expansion, ways, lowest, is_open, clashes, finish, at_lowest, rows_of, no_members}
 use Rattle.closure_sets.specs.Firsts.{Stands, IsNoted, AreNoted, AreFirsts}
 use Rattle.closure_sets.specs.Full.{EachRow, Among}
 use Rattle.closure_sets.specs.Label.{part_of, is_plain}
@@ -86,8 +87,8 @@ expand_noted c easy clash (suc d) row treated more member rows before after fits
     less : suc d - 1 ≡ d
     less = omega arith
 
-    whole : treat_rows c easy clash (suc d - 1) more rows ≡ pick (clash row) [] (expansions (lowest (count c) (is_open row treated)))
-    whole = ap (λ k. treat_rows c easy clash k more rows) less ∙ ap (λ (t : Members). treat_rows c easy clash d t rows) f ∙ ap (treat_rows c easy clash d (add treated member)) g ∙ ap expansions (sym e) ∙ ap (λ b. pick b [] (expansions (lowest (count c) (is_open row treated)))) (sym fits)
+    whole : treat_rows c easy clash (suc d - 1) more rows ≡ (if clash row then [] else expansions (lowest (count c) (is_open row treated)))
+    whole = ap (λ k. treat_rows c easy clash k more rows) less ∙ ap (λ (t : Members). treat_rows c easy clash d t rows) f ∙ ap (treat_rows c easy clash d (add treated member)) g ∙ ap expansions (sym e) ∙ ap (λ b. if b then [] else expansions (lowest (count c) (is_open row treated))) (sym fits)
 
 -- an expansion from nothing, at the label that was noted
 pub noted_firsts : (c : ClosureParts) (a b x y left : ℕ) (seed treated : Members) (before after rows : List Members) → x ≡ a → y ≡ b → left ≡ count c → treated ≡ no_members → before ≡ [] → after ≡ rows → AreNoted before (expand c (is_plain c (x, y)) (clashes c (x, y)) left seed treated) after → AreFirsts (expansion c (a, b) seed) rows

@@ -2,7 +2,8 @@
 use Rattle.std.proofs.Common.{ℕ, zero, suc, ◌≡◌, ◌⊎◌, ◌<◌, ◌≤◌, inl, inr, Bool, true, false, ◌&&◌, not, Option, Some, None, List, [], ◌∷◌, ◌++◌, eqb, eq-eqb, eqb-true, arith, refl, subst, sym}
 use Rattle.std.proofs.lemmas.Bool.{or_cases, or_left, or_right}
 use Rattle.std.proofs.Math.Decide.{dec_lt, ℕ_discrete}
-use Rattle.closure_sets.specs.Expansion.{pick, lowest, or_last, rows_of}
+use Rattle.std.specs.Prelude.{if◌then◌else◌}
+use Rattle.closure_sets.specs.Expansion.{lowest, or_last, rows_of}
 use Rattle.closure_sets.specs.Full.{Among}
 use Rattle.closure_sets.specs.Row.{Members, add}
 
@@ -29,9 +30,9 @@ add_same row m = or_left (eqb m m) (row m) (eq-eqb m m refl)
 pub add_back : (row : Members) (m i : ℕ) → add row m i ≡ true → (i ≡ m) ⊎ (row i ≡ true)
 add_back row m i e = elim (or_cases (eqb i m) (row i) e) [ inl f ↦ inl (eqb-true i m f) | inr f ↦ inr f ]
 
-pub pick_case : (Z : List Members → Type 0) (b : Bool) (xs ys : List Members) → (b ≡ true → Z xs) → (b ≡ false → Z ys) → Z (pick b xs ys)
-pick_case Z true xs ys f g = f refl
-pick_case Z false xs ys f g = g refl
+pub if_cases : (Z : List Members → Type 0) (b : Bool) (xs ys : List Members) → (b ≡ true → Z xs) → (b ≡ false → Z ys) → Z (if b then xs else ys)
+if_cases Z true xs ys f g = f refl
+if_cases Z false xs ys f g = g refl
 
 pub among_map : (X Y : Members → Type 0) (rs : List Members) → ((r : Members) → X r → Y r) → Among X rs → Among Y rs
 among_map X Y [] f h = h

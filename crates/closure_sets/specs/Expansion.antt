@@ -1,5 +1,5 @@
 -- The expansion of a row: its members are treated, the lowest first, until each is met.
-use Rattle.std.specs.Prelude.{ℕ, zero, suc, Bool, true, false, ◌||◌, ◌&&◌, not, Option, Some, None, List, [], ◌∷◌, ◌++◌, is_some}
+use Rattle.std.specs.Prelude.{ℕ, zero, suc, Bool, true, false, ◌||◌, ◌&&◌, not, Option, Some, None, List, [], ◌∷◌, ◌++◌, if◌then◌else◌, is_some}
 use Rattle.pair_structure.specs.declared.side.Side.TheVariants.{A, B}
 use Rattle.ctl_form.specs.declared.part.Part.{Part}
 use Rattle.ctl_form.specs.declared.part.Part.TheVariants.{Yes, No, Lit, Both, Either, Next, Until}
@@ -7,9 +7,17 @@ use Rattle.closure_sets.specs.ClosureParts.{ClosureParts, count, after, some_mov
 use Rattle.closure_sets.specs.Label.{part_of, is_plain, wrong_of}
 use Rattle.closure_sets.specs.Row.{Members, add}
 
-abbrev pub pick : Bool → List Members → List Members → List Members
-pick true xs ys = xs
-pick false xs ys = ys
+-- a member that the row meets already adds nothing
+abbrev pub met_row : Members → List Members
+met_row row = row ∷ []
+
+-- a part that the label makes true settles a member, alone
+abbrev pub settled_row : Members → ℕ → List Members
+settled_row row part = add row part ∷ []
+
+-- else each way to meet it has a row of its own
+abbrev pub split_rows : Members → ℕ → ℕ → List Members
+split_rows row f g = add row f ∷ add row g ∷ []
 
 -- the rows of an until that is not met now
 abbrev pub later_rows : ClosureParts → Bool → Members → ℕ → ℕ → List Members
@@ -19,8 +27,8 @@ later_rows c false row m f = add (add row f) (after c A m) ∷ add (add row f) (
 -- the rows in which a member is treated; easy: a propositional member that the label makes true
 abbrev pub ways : ClosureParts → (ℕ → Bool) → Members → ℕ → Part → List Members
 ways c easy row m (Both f g) = add (add row f) g ∷ []
-ways c easy row m (Either f g) = pick (row f || row g) (row ∷ []) (pick (easy f) (add row f ∷ []) (pick (easy g) (add row g ∷ []) (add row f ∷ add row g ∷ [])))
-ways c easy row m (Until all weak f g) = pick (row g) (row ∷ []) (pick (easy g) (add row g ∷ []) (add row g ∷ later_rows c all row m f))
+ways c easy row m (Either f g) = if row f || row g then met_row row else (if easy f then settled_row row f else (if easy g then settled_row row g else split_rows row f g))
+ways c easy row m (Until all weak f g) = if row g then met_row row else (if easy g then settled_row row g else add row g ∷ later_rows c all row m f)
 ways c easy row m Yes = row ∷ []
 ways c easy row m No = row ∷ []
 ways c easy row m (Lit side local is) = row ∷ []
@@ -50,7 +58,7 @@ rows_of f (r ∷ rs) = f r ++ rows_of f rs
 
 -- a row whose members are all treated: it asks for a move
 abbrev pub finish : ClosureParts → Members → List Members
-finish c row = pick (row (some_move c A) || row (some_move c B)) (row ∷ []) (add row (some_move c A) ∷ add row (some_move c B) ∷ [])
+finish c row = if row (some_move c A) || row (some_move c B) then row ∷ [] else split_rows row (some_move c A) (some_move c B)
 
 abbrev pub at_lowest : Option ℕ → List Members → (ℕ → List Members) → List Members
 at_lowest None done f = done
@@ -58,8 +66,9 @@ at_lowest (Some m) done f = f m
 
 -- at most d members are still to be treated; clash: the row has 'false' or a literal that the label makes false
 abbrev pub expand : ClosureParts → (ℕ → Bool) → (Members → Bool) → ℕ → Members → Members → List Members
-expand c easy clash zero row treated = pick (clash row) [] (finish c row)
-expand c easy clash (suc d) row treated = pick (clash row) [] (at_lowest (lowest (count c) (is_open row treated)) (finish c row) (λ m. rows_of (λ r. expand c easy clash d r (add treated m)) (ways c easy row m (part_of c m))))
+expand c easy clash zero row treated = if clash row then [] else finish c row
+expand c easy clash (suc d) row treated =
+    if clash row then [] else at_lowest (lowest (count c) (is_open row treated)) (finish c row) (λ m. rows_of (λ r. expand c easy clash d r (add treated m)) (ways c easy row m (part_of c m)))
 
 abbrev pub clashes : ClosureParts → ℕ × ℕ → Members → Bool
 clashes c label row = is_some (lowest (count c) (is_shared row (wrong_of c label)))

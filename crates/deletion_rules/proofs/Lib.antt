@@ -5,6 +5,7 @@ pub mod Descent
 pub mod EdgeLaws
 pub mod Existence
 pub mod FromPositions
+pub mod GraphLaws
 pub mod Kept
 pub mod Left
 pub mod MoveList

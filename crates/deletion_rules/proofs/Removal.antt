@@ -5,7 +5,8 @@ use Rattle.pair_structure.specs.declared.side.Side.{Side}
 use Rattle.closure_sets.specs.ClosureParts.{ClosureParts}
 use Rattle.tableau_graph.specs.Graph.{Graph, HasMetChild}
 use Rattle.deletion_rules.specs.Deletion.{SomeChild, Fulfilled}
-use Rattle.deletion_rules.specs.Laws.{AreWithin, DeadIsUnsatisfiable, RemovalKeepsMet, SupportRises}
+use Rattle.deletion_rules.specs.Laws.{AreWithin}
+use Rattle.deletion_rules.proofs.GraphLaws.{DeadIsUnsatisfiableOfGraph, RemovalKeepsMetOfGraph, SupportRisesOfGraph}
 use Rattle.deletion_rules.specs.Met.{Meets}
 use Rattle.deletion_rules.proofs.Choice.{chosen_at, chosen_lawful, chosen_shortest}
 use Rattle.deletion_rules.proofs.Survive.{met_are_supported}
@@ -18,7 +19,7 @@ some_state m label e = within m.states e
     within [] e = absurd (let q : None ≡ Some label = e in cc)
     within (x ∷ xs) e = omega arith
 
-pub dead_is_unsatisfiable : DeadIsUnsatisfiable
+pub dead_is_unsatisfiable : DeadIsUnsatisfiableOfGraph
 dead_is_unsatisfiable a b c k g ok root cover lives live dead m over holds = dead (u.0, u.1, live m over 0 u.0 lt met, tt)
   where
     on : GoesOn m
@@ -36,7 +37,7 @@ dead_is_unsatisfiable a b c k g ok root cover lives live dead m over holds = dea
     met : Meets m c g 0 u.0
     met = record { node = ok.within root u.0 u.1; label = u.2; chosen = ch; lawful = chosen_lawful m on c k 0 lt; shortest = chosen_shortest m on c k 0 lt; met = u.3 }
 
-pub removal_keeps_met : RemovalKeepsMet
+pub removal_keeps_met : RemovalKeepsMetOfGraph
 removal_keeps_met a b c k g ok cover lives left live gone m over s n lt meets = by (left n) refl
   where
     by : (t : Bool) → left n ≡ t → left n ≡ true
@@ -53,7 +54,7 @@ fulfilled_rises c g lives more up true u f second (suc k) n (inr v) = inr (v.0, 
 fulfilled_rises c g lives more up false u f second (suc k) n (inl y) = inl y
 fulfilled_rises c g lives more up false u f second (suc k) n (inr v) = inr (v.0, (v.1.0, v.1.1, child_rises g lives more up _ (Fulfilled c g lives (target_with false u f second) k) (Fulfilled c g more (target_with false u f second) k) (λ j. fulfilled_rises c g lives more up false u f second k j) v.1.2))
 
-pub support_rises : SupportRises
+pub support_rises : SupportRisesOfGraph
 support_rises c g lives more up n h = record {
   successors = λ i h' side some. child_rises g lives more up (g.next_or n i) (λ _. Unit {0}) (λ _. Unit {0}) (λ _ x. x) (h.successors i h' side some);
   fulfilled = λ u strong. let w = h.fulfilled u strong in (w.0, fulfilled_rises c g lives more up u.all u.member u.f u.g w.0 n w.1);

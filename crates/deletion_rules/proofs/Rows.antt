@@ -19,7 +19,8 @@ use Rattle.closure_sets.specs.Full.{Has, IsFull, MeetsPart}
 use Rattle.closure_sets.specs.Label.{part_of, form_of, is_wrong}
 use Rattle.closure_sets.proofs.Closures.{form_is, member_of}
 use Rattle.tableau_graph.specs.Graph.{Graph, IsGraph, IsSomeNext}
-use Rattle.deletion_rules.specs.Unravel.{Plan, target, target_at, row_at, IsPending, Pends, MovesOn, StaysWhilePending, Pursues, IsKeptBy, IsStep, IsUnravelled, RowsAreTrue}
+use Rattle.deletion_rules.specs.Unravel.{Plan, target, target_at, row_at, IsPending, Pends, MovesOn, StaysWhilePending, Pursues, IsKeptBy, IsStep, IsUnravelled}
+use Rattle.deletion_rules.proofs.GraphLaws.{RowsAreTrueOfGraph}
 use Rattle.deletion_rules.specs.declared.position.Position.{Position}
 use Rattle.deletion_rules.proofs.Pending.{decided_has, pending_case}
 use Rattle.deletion_rules.proofs.Plain.{IsPlainPart, right_part, past_true}
@@ -216,5 +217,5 @@ module _ (c : ClosureParts) (k : IsClosureParts c) (g : Graph) (ok : IsGraph c g
   true_below zero i lt = absurd (omega (arith, lt))
   true_below (suc n) i lt = member_true i (λ j l. true_below n j (omega (arith, l, lt))) (part_of c i) refl
 
-pub rows_are_true : RowsAreTrue
+pub rows_are_true : RowsAreTrueOfGraph
 rows_are_true c k g ok m plan at un s i lt has = true_below c k g ok m plan at un (suc i) i (omega arith) s lt has

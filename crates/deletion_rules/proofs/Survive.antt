@@ -15,7 +15,7 @@ use Rattle.closure_sets.specs.Label.{part_of, form_of}
 use Rattle.closure_sets.proofs.Closures.{until_lt, until_form, next_form, after_part}
 use Rattle.tableau_graph.specs.Graph.{Graph, IsGraph, IsSomeNext, ChildrenCover, HasMetChild}
 use Rattle.deletion_rules.specs.Deletion.{SomeChild, LivesOr, Fulfilled, IsStrong, IsSupported}
-use Rattle.deletion_rules.specs.Laws.{MetAreSupported, RanksAreBounded}
+use Rattle.deletion_rules.proofs.GraphLaws.{MetAreSupportedOfGraph, RanksAreBoundedOfGraph}
 use Rattle.deletion_rules.specs.Met.{Meets, MetLive, RoundOf}
 use Rattle.deletion_rules.proofs.Choice.{chosen_at, chosen_lawful, chosen_shortest}
 use Rattle.deletion_rules.specs.Targets.{target_with}
@@ -132,8 +132,8 @@ module _ (a b : RoleParts) (c : ClosureParts) (k : IsClosureParts c) (g : Graph)
   pub supported : (s n : ℕ) → s < length m.states → Meets m c g s n → IsSupported c g lives n
   supported s n lt meets = record { successors = successors s n lt meets; fulfilled = fulfilled s n lt meets }
 
-pub met_are_supported : MetAreSupported
+pub met_are_supported : MetAreSupportedOfGraph
 met_are_supported a b c k g ok cover lives live m over s n lt meets = supported a b c k g ok cover lives live m over s n lt meets
 
-pub ranks_bounded : RanksAreBounded
+pub ranks_bounded : RanksAreBoundedOfGraph
 ranks_bounded a b c k g ok cover lives live m over s n lt meets u strong d r = ranks_are_bounded a b c k g ok cover lives live m over s n lt meets u.member u.f u.g u.all strong.part strong.member d r

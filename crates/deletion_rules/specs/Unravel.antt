@@ -3,12 +3,14 @@ use Rattle.std.specs.Prelude.{ℕ, ◌≡◌, ◌⊎◌, ◌<◌, ◌≤◌, Boo
 use Rattle.pair_structure.specs.Structure.{Structure, GoesOn, HasMove}
 use Rattle.pair_structure.specs.declared.side.Side.{Side}
 use Rattle.ctl_form.specs.declared.part.Part.TheVariants.{Next, Until}
-use Rattle.closure_sets.specs.ClosureParts.{ClosureParts, IsClosureParts, count, after}
+use Rattle.closure_sets.specs.ClosureParts.{ClosureParts, count, after}
 use Rattle.closure_sets.specs.Cover.{IsTrueAt}
 use Rattle.closure_sets.specs.Full.{Has}
 use Rattle.closure_sets.specs.Label.{part_of}
 use Rattle.closure_sets.specs.Row.{Members}
-use Rattle.tableau_graph.specs.Graph.{Graph, IsGraph}
+use Rattle.tableau_graph.specs.Graph.{Graph, graph_of}
+use Rattle.tableau_graph.specs.Rules.{IsTableau}
+use Rattle.tableau_graph.specs.TableauParts.{TableauParts}
 use Rattle.deletion_rules.specs.declared.position.Position.{Position}
 
 -- what an unravelling goes by: the strong untils in the order of their turns, the member EXs u through which an E target u goes on, and the rank of an until at a node
@@ -81,4 +83,4 @@ pub record IsUnravelled (c : ClosureParts) (g : Graph) (m : Structure) (plan : P
 
 -- Each formula of a node's row is true at that node's states.
 abbrev pub RowsAreTrue : Type 0
-RowsAreTrue = (c : ClosureParts) → IsClosureParts c → (g : Graph) → IsGraph c g → (m : Structure) (plan : Plan) (at : ℕ → Position) → IsUnravelled c g m plan at → (s i : ℕ) → s < length m.states → Has (row_at g (at s)) i → IsTrueAt m c s i
+RowsAreTrue = (t : TableauParts) → IsTableau t → (m : Structure) (plan : Plan) (at : ℕ → Position) → IsUnravelled t.closure (graph_of t) m plan at → (s i : ℕ) → s < length m.states → Has (row_at (graph_of t) (at s)) i → IsTrueAt m t.closure s i

@@ -1,5 +1,6 @@
+use Rattle.tableau_graph.specs.Graph.{graph_of}
 use Rattle.deletion_rules.proofs.Removal
 use Rattle.deletion_rules.proofs.laws.dead_is_unsatisfiable.Goals as goal
 
 pub returns : goal.returns
-returns c = Removal.dead_is_unsatisfiable
+returns c = λ t k. Removal.dead_is_unsatisfiable t.a t.b t.closure k.rules.closure (graph_of t) (c.tableau_is_graph.ensures t k) 0 (c.tableau_root_covers.ensures t k)

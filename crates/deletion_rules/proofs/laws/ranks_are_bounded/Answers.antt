@@ -1,5 +1,6 @@
+use Rattle.tableau_graph.specs.Graph.{graph_of}
 use Rattle.deletion_rules.proofs.Survive
 use Rattle.deletion_rules.proofs.laws.ranks_are_bounded.Goals as goal
 
 pub returns : goal.returns
-returns c = Survive.ranks_bounded
+returns c = λ t k. Survive.ranks_bounded t.a t.b t.closure k.rules.closure (graph_of t) (c.tableau_is_graph.ensures t k) (c.tableau_covers.ensures t k)

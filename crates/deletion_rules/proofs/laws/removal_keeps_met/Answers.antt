@@ -1,5 +1,6 @@
+use Rattle.tableau_graph.specs.Graph.{graph_of}
 use Rattle.deletion_rules.proofs.Removal
 use Rattle.deletion_rules.proofs.laws.removal_keeps_met.Goals as goal
 
 pub returns : goal.returns
-returns c = Removal.removal_keeps_met
+returns c = λ t k. Removal.removal_keeps_met t.a t.b t.closure k.rules.closure (graph_of t) (c.tableau_is_graph.ensures t k) (c.tableau_covers.ensures t k)
