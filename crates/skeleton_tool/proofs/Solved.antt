@@ -1,10 +1,10 @@
 -- One more kind is solved, or is the first that cannot be.
-use Rattle.std.proofs.Common.{ℕ, ◌≡◌, ◌<◌, ◌+◌, zero, suc, List, [], ◌∷◌, ◌++◌, length, get_or, take, map, All, ap, ◌∙◌, sym, subst, append_assoc, append-nil, arith, true}
+use Rattle.std.proofs.Common.{ℕ, ◌≡◌, ◌<◌, ◌+◌, zero, suc, List, [], ◌∷◌, ◌++◌, length, get_or, take, ap, ◌∙◌, sym, subst, arith}
 use Rattle.std.proofs.lemmas.List.{take_more, get_or_default, get_or-take, length-take-le}
 use Rattle.pair_structure.specs.Role.{RoleParts}
 use Rattle.pair_structure.specs.Structure.{Structure}
 use Rattle.ctl_form.specs.declared.pair_spec.PairSpec.{PairSpec}
-use Rattle.ctl_form.specs.Kind.{role_at, Satisfies, SatisfiesKind, Solves}
+use Rattle.ctl_form.specs.Kind.{SatisfiesKind, Solves}
 use Rattle.ctl_text.specs.Value.{kind_at}
 use Rattle.skeleton_tool.specs.Answer.{IsFirstUnsatisfiable}
 use Rattle.solution_text.specs.Failing.{IsFirstFailing, structure_at}

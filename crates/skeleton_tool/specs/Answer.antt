@@ -1,5 +1,5 @@
 -- What a call answers: a status, the text that belongs to it, and when it may come.
-use Rattle.std.specs.Prelude.{ℕ, ◌≡◌, ◌<◌, ◌⊎◌, Option, Some, None, List, [], ◌++◌, codes, length}
+use Rattle.std.specs.Prelude.{ℕ, ◌≡◌, ◌<◌, ◌⊎◌, Option, Some, None, List, ◌++◌, codes, length}
 use Rattle.edge_io.specs.Counts.{Rose}
 use Rattle.edge_io.specs.Told.{Appends, AppendsPrefix}
 use Rattle.pair_structure.specs.Role.{RoleParts}
@@ -10,7 +10,7 @@ use Rattle.ctl_text.specs.Value.{SpecParts, kind_at}
 use Rattle.ctl_text.specs.Text.{IsSpecText, IsRefused}
 use Rattle.solution_text.specs.Text.{IsSolutionText, IsRefused as IsSolutionRefused}
 use Rattle.skeleton_tool.specs.declared.status.Status.{Status}
-use Rattle.skeleton_tool.specs.declared.status.Status.TheVariants.{Done, Usage, Refused, Unsatisfiable, Fails, ReadFault, WriteFault, OutOfMemory}
+use Rattle.skeleton_tool.specs.declared.status.Status.TheVariants.{Done, Usage, Unsatisfiable, Fails, WriteFault, OutOfMemory}
 use Rattle.skeleton_tool.specs.Command.{Command, synth, prove, skel, replay, command_of, usage_text, spec_limit, solution_limit}
 use Rattle.skeleton_tool.specs.Status.{code_of}
 use Rattle.skeleton_tool.specs.Failing.{NamesFailing}

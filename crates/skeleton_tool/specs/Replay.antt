@@ -3,7 +3,6 @@
 use Rattle.std.specs.Prelude.{ℕ, ◌≡◌, ◌<◌, ◌⊎◌, List, [], ◌++◌, codes, decimal, length, slice_index}
 use Rattle.std.specs.List.{flat_map, range_with_len}
 use Rattle.pair_structure.specs.Structure.{Structure}
-use Rattle.interconnection.specs.declared.parts.Process.{Process}
 use Rattle.skeleton_extract.specs.SkeletonText.{name_at}
 use Rattle.conjunctive_compose.specs.declared.wish.Wish.{Wish}
 use Rattle.conjunctive_compose.specs.declared.wish.StepAnswer.{StepAnswer}
@@ -17,7 +16,7 @@ use Rattle.firing_journal.specs.Text.{IsJournalText, IsRefused}
 use Rattle.ctl_form.specs.Kind.{Solves}
 use Rattle.ctl_text.specs.Value.{SpecParts, network_of, process_at}
 use Rattle.skeleton_tool.specs.declared.status.Status.{Status}
-use Rattle.skeleton_tool.specs.declared.status.Status.TheVariants.{Done, Usage, Refused, Unsatisfiable, Fails, ReadFault, WriteFault, OutOfMemory}
+use Rattle.skeleton_tool.specs.declared.status.Status.TheVariants.{Done, Fails}
 use Rattle.skeleton_tool.specs.Command.{journal_limit}
 use Rattle.skeleton_tool.specs.Failing.{NamesFailing}
 use Rattle.skeleton_tool.specs.Reading.{Grammar, ReadsAndAnswers}

@@ -8,7 +8,7 @@ use Rattle.ctl_form.specs.declared.pair_spec.PairSpec.{PairSpec}
 use Rattle.ctl_form.specs.Kind.{role_at, Solves}
 use Rattle.ctl_text.specs.Value.{SpecParts}
 use Rattle.skeleton_tool.specs.declared.status.Status.{Status}
-use Rattle.skeleton_tool.specs.declared.status.Status.TheVariants.{Done, Usage, Refused, Unsatisfiable, Fails, ReadFault, WriteFault, OutOfMemory}
+use Rattle.skeleton_tool.specs.declared.status.Status.TheVariants.{Done, Fails}
 use Rattle.skeleton_tool.specs.Failing.{NamesFailing}
 
 -- the commands of each kind's structure, in the order of the kinds
