@@ -6,7 +6,8 @@ use Rattle.std.proofs.lemmas.List.{get_or_append_left, get_or_push}
 use Rattle.pair_structure.specs.declared.side.Move.{Move}
 use Rattle.pair_structure.specs.Structure.{Structure, GoesOn, Reaches}
 use Rattle.pair_structure.specs.StructureFault.{move_at}
-use Rattle.ctl_form.specs.inside.Predecessors.{EndsAt, AreLinked, AddsSources, ArePartsOf, ArePredecessors}
+use Rattle.ctl_form.specs.inside.Predecessors.{EndsAt, AreLinked, AddsSources}
+use Rattle.ctl_form.specs.Predecessors.{ArePartsOf, ArePredecessors}
 use Rattle.ctl_form.proofs.MovePlaces.{reaches_by, move_of}
 use Rattle.ctl_form.proofs.Moves.{reaches_from}
 

@@ -6,7 +6,7 @@ use Rattle.std.proofs.lemmas.List.Sums.{sum_by-set}
 use Rattle.pair_structure.specs.declared.side.Move.{Move}
 use Rattle.pair_structure.specs.Structure.{Structure, Reaches, GoesOn}
 use Rattle.pair_structure.specs.StructureFault.{move_at}
-use Rattle.ctl_form.specs.inside.Predecessors.{ArePredecessors}
+use Rattle.ctl_form.specs.Predecessors.{ArePredecessors}
 use Rattle.ctl_form.specs.Rounds.{AfterMove}
 use Rattle.ctl_form.specs.Row.{IsAt, IsRowOf}
 use Rattle.ctl_form.specs.inside.Spread.{EachLeads, IsAdmitted, Visits, IsMarkList, Anyhow, SeenBefore, IsUsed, IsSpread}

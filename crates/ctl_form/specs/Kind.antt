@@ -1,11 +1,11 @@
 -- What a kind of pairs asks of a structure, and a specification of a solution.
-use Rattle.std.specs.Prelude.{true, false, Some, List, [], ◌∷◌, ◌++◌, map, filter, All}
+use Rattle.std.specs.Prelude.{ℕ, ◌<◌, true, false, Some, List, [], ◌∷◌, ◌++◌, map, filter, All}
 use Rattle.pair_structure.specs.declared.side.Side.{Side}
 use Rattle.pair_structure.specs.declared.side.Side.TheVariants.{A, B}
 use Rattle.pair_structure.specs.declared.side.LocalArc.{LocalArc}
 pub use Rattle.pair_structure.specs.Parts.{role_at}
 use Rattle.pair_structure.specs.Role.{RoleParts}
-use Rattle.pair_structure.specs.Structure.{Structure, IsOver}
+use Rattle.pair_structure.specs.Structure.{Structure, IsOver, start_count}
 use Rattle.ctl_form.specs.declared.pair_spec.PairSpec.{PairSpec}
 use Rattle.ctl_form.specs.Form.{Form, at, implies, next, always}
 use Rattle.ctl_form.specs.Truth.{Holds}
@@ -21,10 +21,10 @@ free_forms side arcs = map (free_form side) (filter (λ (arc : LocalArc). arc.fr
 abbrev pub whole_forms : RoleParts → RoleParts → List Form → List Form
 whole_forms a b clauses = clauses ++ free_forms A a.arcs ++ free_forms B b.arcs
 
--- a structure over the roles at whose state 0 all of these hold
+-- a structure over the roles at each of whose start states all of these hold
 pub record Satisfies (a b : RoleParts) (clauses : List Form) (m : Structure) : Type 0 where
   pub over : IsOver a b m
-  pub holds : All (λ f. Holds m f 0) (whole_forms a b clauses)
+  pub holds : (s : ℕ) → s < start_count a b → All (λ f. Holds m f s) (whole_forms a b clauses)
 
 -- the structure satisfies the kind
 abbrev pub SatisfiesKind : List RoleParts → PairSpec → Structure → Type 0

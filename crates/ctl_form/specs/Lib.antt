@@ -10,6 +10,7 @@ pub mod Normal
 pub mod NormalParts
 pub mod Numbered
 pub mod Path
+pub mod Predecessors
 pub mod Rounds
 pub mod Row
 pub mod Truth

@@ -1,7 +1,7 @@
 ghost use Rattle.std.specs.Prelude.{IfOk, OnOk};
 ghost use Rattle.ctl_form.specs.Form.{form_of};
 ghost use Rattle.ctl_form.specs.inside.Known.{AreKnown};
-ghost use Rattle.ctl_form.specs.inside.Predecessors.{ArePredecessors};
+ghost use Rattle.ctl_form.specs.Predecessors.{ArePredecessors};
 ghost use Rattle.ctl_form.specs.Row.{IsTruthOf};
 ghost use Rattle.ctl_form.specs.inside.Operators.{one_form, two_form};
 

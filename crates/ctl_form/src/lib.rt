@@ -39,4 +39,5 @@ pub use normal::Normal;
 pub use normal_fault::NormalFault;
 pub use pair_spec::PairSpec;
 pub use part::Part;
+pub use predecessors::Predecessors;
 pub use solving::solves;

@@ -1,7 +1,7 @@
 ghost use Rattle.std.specs.Prelude.{◌≡◌, ◌↔◌, ℕ, length, true, IsTrue, IfOk};
 ghost use Rattle.ctl_form.specs.Form.{Form, always, sometime, until};
 ghost use Rattle.ctl_form.specs.inside.Operators.{one_form, two_form};
-ghost use Rattle.ctl_form.specs.inside.Predecessors.{ArePredecessors};
+ghost use Rattle.ctl_form.specs.Predecessors.{ArePredecessors};
 ghost use Rattle.ctl_form.specs.Row.{IsAt, IsRowOf, IsTruthOf};
 ghost use Rattle.ctl_form.specs.Truth.{AlongPaths, HasLocal};
 

@@ -1,15 +1,16 @@
 ghost use Rattle.std.specs.Prelude.{◌≡◌, ◌<◌, ◌++◌, ◌∷◌, [], ℕ, length, IfOk, OnOk, slice_index};
 ghost use Rattle.pair_structure.specs.StructureFault.{move_at};
-ghost use Rattle.ctl_form.specs.inside.Predecessors.{EndsAt, AreLinked, AddsSources, ArePredecessors};
+ghost use Rattle.ctl_form.specs.inside.Predecessors.{EndsAt, AreLinked, AddsSources};
+ghost use Rattle.ctl_form.specs.Predecessors.{ArePredecessors};
 
 use pair_structure::{Memory, Move, PairStructure};
 use std::alloc::Global;
 
 /// The states from which a move leads to each state, in one flat list: those of state t stand from `begins[t]` up to `begins[t + 1]`.
-#[derive(Drop)]
-pub(crate) struct Predecessors {
-    pub(crate) begins: Vec<usize>,
-    pub(crate) sources: Vec<u64>,
+#[derive(Debug, Drop)]
+pub struct Predecessors {
+    pub begins: Vec<usize>,
+    pub sources: Vec<u64>,
 }
 
 /// `ends` has for each state how many moves stand up to the last that leads to it; `before` has for each move the same of the moves before
@@ -22,7 +23,7 @@ struct Links {
 
 impl Predecessors {
     /// Linear in states and moves.
-    pub(crate) fn of(alloc: Global, m: &PairStructure) -> Result<Predecessors, Memory>
+    pub fn of(alloc: Global, m: &PairStructure) -> Result<Predecessors, Memory>
         ensures { IfOk result (λ p. ArePredecessors m.now p.begins.items p.sources.items) }
     {
         let states = m.states().len();

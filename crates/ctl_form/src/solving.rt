@@ -1,14 +1,15 @@
-ghost use Rattle.std.specs.Prelude.{◌≡◌, ◌<◌, ◌↔◌, length, map, All, IsTrue, IfOk, OnOk};
+ghost use Rattle.std.specs.Prelude.{◌≡◌, ◌<◌, ◌≤◌, ◌↔◌, ℕ, length, map, All, IsTrue, IfOk, OnOk};
 ghost use Rattle.pair_structure.specs.Structure.{IsOver};
 ghost use Rattle.ctl_form.specs.Form.{form_of};
 ghost use Rattle.ctl_form.specs.Kind.{Satisfies};
-ghost use Rattle.ctl_form.specs.inside.Predecessors.{ArePredecessors};
+ghost use Rattle.ctl_form.specs.Predecessors.{ArePredecessors};
 ghost use Rattle.ctl_form.specs.inside.Known.{AreKnown};
+ghost use Rattle.ctl_form.specs.Row.{IsAt};
 ghost use Rattle.ctl_form.specs.Truth.{Holds};
 
 use crate::holds::{Known, truth_row};
 use crate::predecessors::Predecessors;
-use crate::{Formula, PairSpec, whole};
+use crate::{BitRow, Formula, PairSpec, whole};
 use pair_structure::{Memory, PairStructure, Role};
 use std::alloc::Global;
 use std::collections::BTreeMap;
@@ -27,43 +28,57 @@ pub fn solves(
 {
     let forms = whole(alloc, spec.clauses.as_slice(), a, b)?;
     let predecessors = Predecessors::of(alloc, m)?;
-    each_holds(alloc, m, &predecessors, &forms)
+    all_hold(alloc, m, &predecessors, &forms, m.start_count(a, b))
 }
 
-/// Whether each of the formulas holds at state 0.
-fn each_holds(
+/// Whether each of the formulas holds at each of the first states.
+fn all_hold(
     alloc: Global,
     m: &PairStructure,
     predecessors: &Predecessors,
     forms: &[Formula],
+    count: u64,
 ) -> Result<bool, Memory>
     requires predecessors { ArePredecessors m.now predecessors.now.begins.items predecessors.now.sources.items }
-    requires begins { 0 < length m.now.states }
-    ensures { IfOk result (λ yes. IsTrue yes ↔ All (λ f. Holds m.now f 0) (map form_of forms.now)) }
+    requires within { count ≤ length m.now.states }
+    ensures { IfOk result (λ yes. IsTrue yes ↔ ((s : ℕ) → s < count → All (λ f. Holds m.now f s) (map form_of forms.now))) }
 {
     let mut known = BTreeMap::new(alloc);
     for form in forms {
-        if !holds_first(alloc, m, predecessors, &mut known, form)? {
+        if !holds_below(alloc, m, predecessors, &mut known, form, count)? {
             return Ok(false);
         }
     }
     Ok(true)
 }
 
-/// Whether the formula holds at state 0.
-fn holds_first(
+/// Whether the formula holds at each of the first states.
+fn holds_below(
     alloc: Global,
     m: &PairStructure,
     predecessors: &Predecessors,
     known: &mut Known,
     form: &Formula,
+    count: u64,
 ) -> Result<bool, Memory>
     requires predecessors { ArePredecessors m.now predecessors.now.begins.items predecessors.now.sources.items }
-    requires begins { 0 < length m.now.states }
+    requires within { count ≤ length m.now.states }
     requires known { AreKnown m.now known.old }
-    ensures holds { IfOk result (λ yes. IsTrue yes ↔ Holds m.now (form_of form.now) 0) }
+    ensures holds { IfOk result (λ yes. IsTrue yes ↔ ((s : ℕ) → s < count → Holds m.now (form_of form.now) s)) }
     ensures known { OnOk result (AreKnown m.now known.new) }
 {
     let row = truth_row(alloc, m, predecessors, known, form)?;
-    Ok(row.has(0))
+    Ok(is_true_below(&row, count))
+}
+
+fn is_true_below(row: &BitRow, count: u64) -> bool
+    requires { count ≤ length row.now }
+    ensures { IsTrue result ↔ ((s : ℕ) → s < count → IsAt row.now s) }
+{
+    for s in 0..count {
+        if !row.has(s) {
+            return false;
+        }
+    }
+    true
 }

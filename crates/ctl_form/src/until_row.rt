@@ -1,6 +1,6 @@
 ghost use Rattle.std.specs.Prelude.{◌≡◌, ◌<◌, ◌↔◌, ℕ, length, false, IsTrue, IfOk, OnOk};
 ghost use Rattle.pair_structure.specs.StructureFault.{move_at};
-ghost use Rattle.ctl_form.specs.inside.Predecessors.{ArePredecessors};
+ghost use Rattle.ctl_form.specs.Predecessors.{ArePredecessors};
 ghost use Rattle.ctl_form.specs.Row.{IsAt, IsRowOf};
 ghost use Rattle.ctl_form.specs.inside.Spread.{AreInOrder, AreCursors, IsAdmitted, IsMarkList, Visits};
 ghost use Rattle.ctl_form.specs.Truth.{AlongPaths};

@@ -4,7 +4,7 @@ use Rattle.std.proofs.Math.Decide.{dec_lt, ℕ_discrete}
 use Rattle.std.proofs.lemmas.List.Elements.{Contains-append_right, Contains-append_cases, Contains-push_cases, Contains-get_or}
 use Rattle.std.proofs.lemmas.List.{get_or_default}
 use Rattle.std.proofs.lemmas.List.FromFn.{length-range_with_len}
-use Rattle.pair_structure.specs.Role.{RoleParts, IsRole}
+use Rattle.pair_structure.specs.Role.{RoleParts, IsRole, HasOneStart, first_start}
 use Rattle.pair_structure.specs.Structure.{Structure, IsLabel, IsOver}
 use Rattle.pair_structure.specs.declared.side.Move.{Move}
 use Rattle.pair_structure.specs.declared.side.Side.{Side}
@@ -76,7 +76,7 @@ decided_position p q = by (ℕ_discrete p.node q.node) (ℕ_discrete p.place q.p
     by (no n) f = inr (λ s. n (ap (λ (r : Position). r.node) s))
     by (yes e) (no n) = inr (λ s. n (ap (λ (r : Position). r.place) s))
 
-module _ (a b : RoleParts) (ra : IsRole a) (rb : IsRole b) (c : ClosureParts) (k : IsClosureParts c) (g : Graph) (ok : IsGraph c g) (arcs : FollowArcs a b c g) (lives : ℕ → Bool) (rank : ℕ → ℕ → Option ℕ) (kept : IsKept c g lives rank) where
+module _ (a b : RoleParts) (ra : IsRole a) (rb : IsRole b) (one_a : HasOneStart a) (one_b : HasOneStart b) (c : ClosureParts) (k : IsClosureParts c) (g : Graph) (ok : IsGraph c g) (arcs : FollowArcs a b c g) (lives : ℕ → Bool) (rank : ℕ → ℕ → Option ℕ) (kept : IsKept c g lives rank) where
   abbrev pub plan : Plan
   plan = whole_plan c g lives rank kept
 
@@ -152,7 +152,7 @@ module _ (a b : RoleParts) (ra : IsRole a) (rb : IsRole b) (c : ClosureParts) (k
   match_of p i (inl u) side h good some = (u.4.0, (same_next (part_of c i) u.0 side u.1 h (u.2).part some.part, refl), (u.4.1).reaches, (u.4.1).step)
   match_of p i (inr none) side h good some = absurd (none side h good some)
 
-  module _ (n0 : ℕ) (living : lives n0 ≡ true) (starts : g.label n0 ≡ (a.start, b.start)) where
+  module _ (n0 : ℕ) (living : lives n0 ≡ true) (starts : g.label n0 ≡ (first_start a, first_start b)) where
     abbrev pub first : Position
     first = record { node = n0; place = 0 }
 
@@ -172,7 +172,7 @@ module _ (a b : RoleParts) (ra : IsRole a) (rb : IsRole b) (c : ClosureParts) (k
     some_members = omega (arith, k.moves.1, length-range_with_len 0 (count c))
 
     first_good : Good first
-    first_good = good_of first (living, subst (λ l. IsLabel a b l) (sym starts) (ra.starts, rb.starts)) some_members
+    first_good = good_of first (living, subst (λ l. IsLabel a b l) (sym starts) (ra.starts_within 0 0 ra.begins, rb.starts_within 0 0 rb.begins)) some_members
 
     all_good : (p : Position) → Contains all p → Good p
     all_good p h = elim (Contains-append_cases (first ∷ []) (positions_below Within decided_within size g.ands) p h) [
@@ -208,7 +208,7 @@ module _ (a b : RoleParts) (ra : IsRole a) (rb : IsRole b) (c : ClosureParts) (k
     sized turns = omega arith
 
     pub unravelled : IsUnravelled c g whole plan at
-    unravelled = unravelled_of a b c k g ok arcs lives rank kept plan planned (has_targets c g lives rank kept) size sized first all whole.moves starts (omega arith) at_good (moves_rise linked (length all) (length all)) links goes
+    unravelled = unravelled_of a b c k g ok arcs lives rank kept plan planned (has_targets c g lives rank kept) size sized first all whole.moves one_a one_b starts (omega arith) at_good (moves_rise linked (length all) (length all)) links goes
 
     pub over : IsOver a b whole
-    over = over_of a b c k g ok arcs lives rank kept plan planned (has_targets c g lives rank kept) size sized first all whole.moves starts (omega arith) at_good (moves_rise linked (length all) (length all)) links goes
+    over = over_of a b c k g ok arcs lives rank kept plan planned (has_targets c g lives rank kept) size sized first all whole.moves one_a one_b starts (omega arith) at_good (moves_rise linked (length all) (length all)) links goes

@@ -3,7 +3,8 @@ use Rattle.std.proofs.Common.{ℕ, ◌≡◌, ◌<◌, ◌≤◌, inl, inr, Bool
 use Rattle.std.proofs.lemmas.List.Elements.{Contains-get_or}
 use Rattle.std.proofs.lemmas.List.{get_or-map, length-map}
 use Rattle.std.proofs.lemmas.Option.{slice_get-get_or}
-use Rattle.pair_structure.specs.Role.{RoleParts}
+use Rattle.pair_structure.proofs.FirstState.{one_state}
+use Rattle.pair_structure.specs.Role.{RoleParts, HasOneStart, first_start}
 use Rattle.pair_structure.specs.Structure.{Structure, HasMove, GoesOn, IsLawfulMove, IsOver, IsRising, label_at}
 use Rattle.pair_structure.specs.declared.side.Move.{Move}
 use Rattle.pair_structure.specs.declared.side.Side.{Side}
@@ -34,7 +35,7 @@ module _ (a b : RoleParts) (c : ClosureParts) (k : IsClosureParts c) (g : Graph)
   abbrev pub whole_of : Structure
   whole_of = record { states = map (λ (p : Position). g.label p.node) all; moves = moves }
 
-  module _ (starts : g.label (at 0).node ≡ (a.start, b.start)) (some : 0 < length all) (good : (s : ℕ) → s < length all → IsGood a b g lives size (at s)) (rising : IsRising moves) (links : (x : Move) → Contains moves x → (x.from < length all) × (x.to < length all) × Leads c g plan (at x.from) x.side (at x.to)) (goes : (s i h : ℕ) (side : Side) → s < length all → IsSomeNext c g (at s).node i side h → (t : ℕ) × (t < length all) × Contains moves (record { from = s; side = side; to = t }) × IsStep c g plan (at s) i (at t)) where
+  module _ (one_a : HasOneStart a) (one_b : HasOneStart b) (starts : g.label (at 0).node ≡ (first_start a, first_start b)) (some : 0 < length all) (good : (s : ℕ) → s < length all → IsGood a b g lives size (at s)) (rising : IsRising moves) (links : (x : Move) → Contains moves x → (x.from < length all) × (x.to < length all) × Leads c g plan (at x.from) x.side (at x.to)) (goes : (s i h : ℕ) (side : Side) → s < length all → IsSomeNext c g (at s).node i side h → (t : ℕ) × (t < length all) × Contains moves (record { from = s; side = side; to = t }) × IsStep c g plan (at s) i (at t)) where
     long : length whole_of.states ≡ length all
     long = length-map all (λ (p : Position). g.label p.node)
 
@@ -86,7 +87,8 @@ module _ (a b : RoleParts) (c : ClosureParts) (k : IsClosureParts c) (g : Graph)
 
     pub over_of : IsOver a b whole_of
     over_of = record {
-      start = slice_get-get_or whole_of.states 0 (0, 0) (omega (arith, some, long)) ∙ ap (λ l. Some l) (label_read 0 some ∙ starts);
+      some = omega (arith, some, long);
+      starts = one_state a b whole_of.states one_a one_b (slice_get-get_or whole_of.states 0 (0, 0) (omega (arith, some, long)) ∙ ap (λ l. Some l) (label_read 0 some ∙ starts));
       labels = λ s d lt. (let l : s < length all = omega (arith, lt, long) in rw (get_or-map (λ (p : Position). g.label p.node) all s nowhere d l) (good s l).label);
       lawful = λ n d lt. lawful (slice_index_or moves n d) (Contains-get_or moves n d lt);
       rising = rising;

@@ -12,13 +12,6 @@ use Rattle.deletion_rules.proofs.Choice.{chosen_at, chosen_lawful, chosen_shorte
 use Rattle.deletion_rules.proofs.Survive.{met_are_supported}
 use Rattle.deletion_rules.specs.Targets.{target_with}
 
-some_state : (m : Structure) (label : ℕ × ℕ) → slice_get m.states 0 ≡ Some label → 0 < length m.states
-some_state m label e = within m.states e
-  where
-    within : (xs : List (ℕ × ℕ)) → slice_get xs 0 ≡ Some label → 0 < length xs
-    within [] e = absurd (let q : None ≡ Some label = e in cc)
-    within (x ∷ xs) e = omega arith
-
 pub dead_is_unsatisfiable : DeadIsUnsatisfiableOfGraph
 dead_is_unsatisfiable a b c k g ok root cover lives live dead m over holds = dead (u.0, u.1, live m over 0 u.0 lt met, tt)
   where
@@ -26,7 +19,7 @@ dead_is_unsatisfiable a b c k g ok root cover lives live dead m over holds = dea
     on = over.goes_on
 
     lt : 0 < length m.states
-    lt = some_state m (a.start, b.start) over.start
+    lt = over.some
 
     ch : ℕ → Side
     ch = chosen_at m on c k 0 lt

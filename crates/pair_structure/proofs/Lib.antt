@@ -1,13 +1,16 @@
 pub mod AllPairsLaws
 pub mod ArcMarks
 pub mod FirstLaws
+pub mod FirstState
 pub mod ListOfLists
 pub mod Middle
 pub mod MoveOrder
+pub mod OneStart
 pub mod OneStructureFault
 pub mod Ordinals
 pub mod Rising
 pub mod RoleFaultLaws
+pub mod StartRows
 pub mod StatesLeft
 pub mod StructureFaultLaws
 pub mod Turns

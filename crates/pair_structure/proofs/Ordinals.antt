@@ -12,7 +12,7 @@ use Rattle.pair_structure.specs.Structure.{label_at}
 same_label : (label : ℕ × ℕ) → is_same_label label label ≡ true
 same_label (a, b) = grind (arith, nat_tests)
 
-other_label : (a b p q : ℕ) → ((a ≡ p) × (b ≡ q) → ⊥) → is_same_label (p, q) (a, b) ≡ false
+pub other_label : (a b p q : ℕ) → ((a ≡ p) × (b ≡ q) → ⊥) → is_same_label (p, q) (a, b) ≡ false
 other_label a b p q differ = grind (arith, nat_tests)
 
 -- the ordinal of a state is below the count of its label

@@ -1,8 +1,7 @@
 -- Which fault of states and moves is the first, and that without one they are a structure.
-use Rattle.std.proofs.Common.{ℕ, zero, suc, ◌≡◌, ◌<◌, ◌+◌, List, length, arith, subst, ap, ◌∙◌, Some, inl, inr, refl}
+use Rattle.std.proofs.Common.{ℕ, zero, suc, ◌≡◌, ◌<◌, ◌+◌, List, length, arith, subst, inl, inr, refl}
 use Rattle.std.proofs.lemmas.Bool.{cases_lt}
 use Rattle.std.proofs.lemmas.List.{get_or_default}
-use Rattle.std.proofs.lemmas.Option.{slice_get-get_or, slice_get_within, get_or_from_slice_get}
 use Rattle.pair_structure.specs.declared.side.Move.{Move}
 use Rattle.pair_structure.specs.declared.side.Side.TheVariants.{A}
 use Rattle.pair_structure.specs.declared.structure_fault.StructureFault.{StructureFault}
@@ -34,7 +33,7 @@ first_no_move a b states moves s labelled lawful within none left = record { sta
   where
     go : (other : StructureFault) → Stands a b states moves other → ComesFirst 8 s (kind_of other) (place_of other)
     go Empty stands = grind (arith, labelled.some)
-    go Start stands = absurd (stands.1 labelled.start)
+    go Start stands = absurd (stands labelled.starts)
     go (LocalRange k) stands = absurd (stands.1 (labelled.labels k stands.0))
     go (MoveRange k) stands = grind (arith, lawful.range k stands.0)
     go (NotAnArc k) stands = absurd (stands.1 (lawful.arcs k stands.0))
@@ -51,7 +50,8 @@ first_no_move a b states moves s labelled lawful within none left = record { sta
 pub IsPairStructure_from_checks : (a b : RoleParts) (states : List (ℕ × ℕ)) (moves : List Move) → AreLabelled a b states → AreMoves a b states moves → ((s : ℕ) → s < length states → IsLeft moves s)
     → IsPairStructure a b states moves
 IsPairStructure_from_checks a b states moves labelled lawful left = record {
-  start = slice_get-get_or states 0 (0, 0) labelled.some ∙ ap Some labelled.start;
+  some = labelled.some;
+  starts = labelled.starts;
   labels = λ k d lt. grind (arith, labelled.labels k lt, get_or_default states k d);
   lawful = λ k d lt. subst (IsLawfulMove a b states) (get_or_default moves k _ d lt) (record { from = (lawful.range k lt).0; to = (lawful.range k lt).1; arc = lawful.arcs k lt; stays = lawful.stays k lt });
   rising = IsRising-from_each moves lawful.rising;
@@ -64,8 +64,8 @@ IsPairStructure_from_checks a b states moves labelled lawful left = record {
 
 -- no fault stands against a structure
 pub none_against : (a b : RoleParts) (states : List (ℕ × ℕ)) (moves : List Move) → IsPairStructure a b states moves → (fault : StructureFault) → Stands a b states moves fault → ⊥
-none_against a b states moves m Empty stands = omega (arith, stands, slice_get_within states 0 _ m.start)
-none_against a b states moves m Start stands = stands.1 (get_or_from_slice_get states 0 _ (0, 0) m.start)
+none_against a b states moves m Empty stands = omega (arith, stands, m.some)
+none_against a b states moves m Start stands = stands m.starts
 none_against a b states moves m (LocalRange s) stands = stands.1 (m.labels s (0, 0) stands.0)
 none_against a b states moves m (MoveRange n) stands =
     let lawful = m.lawful n no_move stands.0 in elim stands.1 [ inl past ↦ omega (arith, past, lawful.from) | inr past ↦ omega (arith, past, lawful.to) ]

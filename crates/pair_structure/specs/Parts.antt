@@ -15,7 +15,7 @@ name_at names n = slice_index_or names n []
 
 -- a role of a list by its number; past the end one with nothing
 abbrev pub role_at : List RoleParts → ℕ → RoleParts
-role_at roles n = slice_index_or roles n (record { name = []; locals = []; start = 0; arcs = [] })
+role_at roles n = slice_index_or roles n (record { name = []; locals = []; starts = []; arcs = [] })
 
 -- an arc of a list by its number; past the end one that joins nothing
 abbrev pub arc_at : List LocalArc → ℕ → LocalArc

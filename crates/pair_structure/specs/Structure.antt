@@ -1,11 +1,11 @@
 -- Pair structures: labelled states and moves, and what makes them a structure over two roles.
-use Rattle.std.specs.Prelude.{ℕ, ◌≡◌, ◌<◌, ◌⊎◌, List, length, Contains, All, Some, slice_get, slice_index_or}
+use Rattle.std.specs.Prelude.{ℕ, ◌≡◌, ◌<◌, ◌+◌, ◌*◌, ◌⊎◌, List, length, Contains, All, Some, slice_get, slice_index_or}
 use Rattle.std.specs.List.{AllAdjacentBelow}
 use Rattle.pair_structure.specs.declared.side.Side.{Side}
 use Rattle.pair_structure.specs.declared.side.Side.TheVariants.{A, B}
 use Rattle.pair_structure.specs.declared.side.Move.{Move}
 use Rattle.pair_structure.specs.declared.side.LocalArc.{LocalArc}
-use Rattle.pair_structure.specs.Role.{RoleParts, HasArc}
+use Rattle.pair_structure.specs.Role.{RoleParts, HasArc, start_at}
 
 -- a structure as a value: the label of each state, a local state of side a and one of side b, and the moves
 pub record Structure : Type 0 where
@@ -63,9 +63,19 @@ pub record IsLawfulMove (a b : RoleParts) (states : List (ℕ × ℕ)) (move : M
   pub arc : TakesArc a.arcs b.arcs move.side (label_at states move.from) (label_at states move.to)
   pub stays : OtherStays move.side (label_at states move.from) (label_at states move.to)
 
--- states and moves are a structure over the roles: it begins where both start, and each state has a move
+-- there is a start state for each start of a with each of b
+abbrev pub start_count : RoleParts → RoleParts → ℕ
+start_count a b = length a.starts * length b.starts
+
+-- the start states come first: where b has n starts, the state i n + j is labelled with start i of a and start j of b
+abbrev pub HaveStarts : RoleParts → RoleParts → List (ℕ × ℕ) → Type 0
+HaveStarts a b states =
+    (i j : ℕ) → i < length a.starts → j < length b.starts → slice_get states (i * length b.starts + j) ≡ Some (start_at a.starts i, start_at b.starts j)
+
+-- states and moves are a structure over the roles: it begins in the start states, and each state has a move
 pub record IsPairStructure (a b : RoleParts) (states : List (ℕ × ℕ)) (moves : List Move) : Type 0 where
-  pub start : slice_get states 0 ≡ Some (a.start, b.start)
+  pub some : 0 < length states
+  pub starts : HaveStarts a b states
   pub labels : All (IsLabel a b) states
   pub lawful : All (IsLawfulMove a b states) moves
   pub rising : IsRising moves

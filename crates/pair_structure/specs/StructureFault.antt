@@ -1,12 +1,12 @@
 -- Why states and moves are no structure over two roles, and which of the faults is the first.
-use Rattle.std.specs.Prelude.{ℕ, ◌≡◌, ◌≢◌, ◌<◌, ◌≤◌, ◌+◌, ◌⊎◌, List, length}
+use Rattle.std.specs.Prelude.{ℕ, ◌≡◌, ◌<◌, ◌≤◌, ◌+◌, ◌⊎◌, List, length}
 use Rattle.pair_structure.specs.declared.side.Move.{Move}
 use Rattle.pair_structure.specs.declared.structure_fault.StructureFault.{StructureFault}
 use Rattle.pair_structure.specs.declared.structure_fault.StructureFault.TheVariants.{Empty, Start, LocalRange, MoveRange, NotAnArc, OtherSideMoved, NotRising, NoMove, Memory}
 use Rattle.pair_structure.specs.First.{IsFirst}
 pub use Rattle.pair_structure.specs.Parts.{move_at}
 use Rattle.pair_structure.specs.Role.{RoleParts}
-use Rattle.pair_structure.specs.Structure.{label_at, IsLabel, TakesArc, OtherStays, IsBefore, Reaches}
+use Rattle.pair_structure.specs.Structure.{label_at, HaveStarts, IsLabel, TakesArc, OtherStays, IsBefore, Reaches}
 
 -- the labels that a move leaves and reaches
 abbrev pub label_from : List (ℕ × ℕ) → Move → ℕ × ℕ
@@ -18,7 +18,7 @@ label_to states move = label_at states move.to
 -- the fault stands against these states and moves, at this place
 abbrev pub Stands : RoleParts → RoleParts → List (ℕ × ℕ) → List Move → StructureFault → Type 0
 Stands a b states moves Empty = length states ≡ 0
-Stands a b states moves Start = (0 < length states) × (label_at states 0 ≢ (a.start, b.start))
+Stands a b states moves Start = HaveStarts a b states → ⊥
 Stands a b states moves (LocalRange state) = (state < length states) × (IsLabel a b (label_at states state) → ⊥)
 Stands a b states moves (MoveRange n) = (n < length moves) × ((length states ≤ (move_at moves n).from) ⊎ (length states ≤ (move_at moves n).to))
 Stands a b states moves (NotAnArc n) = (n < length moves) × (TakesArc a.arcs b.arcs (move_at moves n).side (label_from states (move_at moves n)) (label_to states (move_at moves n)) → ⊥)

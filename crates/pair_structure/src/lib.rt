@@ -15,6 +15,8 @@ mod role;
 mod role_fault;
 mod side;
 mod sides;
+mod start_check;
+mod starts;
 mod structure;
 mod structure_check;
 mod structure_fault;

@@ -1,51 +1,84 @@
-ghost use Rattle.std.specs.Prelude.{◌≡◌, IsOk, IfOk, IfErr};
-ghost use Rattle.pair_structure.specs.Role.{IsRole, AreLawful};
+ghost use Rattle.std.specs.Prelude.{◌≡◌, ◌<◌, ◌∷◌, [], length, IsOk, IfOk, IfErr};
+ghost use Rattle.pair_structure.specs.inside.Starts.{starts_of};
+ghost use Rattle.pair_structure.specs.Role.{IsRole, AreLawful, first_start, starting_at};
 ghost use Rattle.pair_structure.specs.RoleFault.{IsFirstRoleFault};
 
 use crate::role_fault::fault_of;
+use crate::starts::Starts;
 use crate::{LocalArc, Memory, Name, RoleFault};
 use std::alloc::Global;
 use std::marker::Model;
 
-/// A role: its name, its local states, the one where it starts, and its arcs. Local states and arcs are numbered in their order.
+/// A role: its name, its local states, those where it may start, and its arcs. Local states, starts and arcs are numbered in their
+/// order.
 #[derive(Debug, Drop)]
 pub struct Role {
     name: Name,
     locals: Vec<Name>,
-    start: u8,
+    starts: Starts,
     arcs: Vec<LocalArc>,
 }
 
 impl Model for Role {
+    ghost use Rattle.pair_structure.specs.inside.Starts.{starts_of};
     ghost use Rattle.pair_structure.specs.Role.{RoleParts, IsRole};
 
     ghost Value = { RoleParts };
 
-    ghost view = { λ r. record { name = r.name; locals = r.locals.items; start = r.start; arcs = r.arcs.items } };
+    ghost view = { λ r. record { name = r.name; locals = r.locals.items; starts = starts_of r.starts; arcs = r.arcs.items } };
 
-    ghost invariant = { λ r. IsRole (record { name = r.name; locals = r.locals.items; start = r.start; arcs = r.arcs.items }) };
+    ghost invariant = { λ r. IsRole (record { name = r.name; locals = r.locals.items; starts = starts_of r.starts; arcs = r.arcs.items }) };
 }
 
 impl Role {
-    /// The role with these parts, or the first fault that stands against them. Takes no memory; at most 32 times 32 and 128 times 128
-    /// comparisons.
+    /// The role with one start, as `with_starts` makes it.
     pub fn make(
         name: Name,
         locals: Vec<Name>,
         start: u8,
         arcs: Vec<LocalArc>,
     ) -> Result<Role, RoleFault>
-        ensures role { IfOk result (λ r. r ≡ record { name = name; locals = locals.items; start = start; arcs = arcs.items }) }
-        ensures lawful { IfOk result (λ r. AreLawful locals.items start arcs.items) }
-        ensures accepts { AreLawful locals.items start arcs.items → IsOk result }
-        ensures fault { IfErr result (IsFirstRoleFault locals.items start arcs.items) }
+        ensures role { IfOk result (λ r. r ≡ record { name = name; locals = locals.items; starts = start ∷ []; arcs = arcs.items }) }
+        ensures lawful { IfOk result (λ r. AreLawful locals.items (start ∷ []) arcs.items) }
+        ensures accepts { AreLawful locals.items (start ∷ []) arcs.items → IsOk result }
+        ensures fault { IfErr result (IsFirstRoleFault locals.items (start ∷ []) arcs.items) }
     {
-        match fault_of(&locals, start, &arcs) {
+        Role::of(name, locals, Starts::One([start]), arcs)
+    }
+
+    /// The role with these parts, or the first fault that stands against them. Takes no memory; at most 32 times 32 comparisons of names
+    /// and of starts, and 128 times 128 of arcs.
+    pub fn with_starts(
+        name: Name,
+        locals: Vec<Name>,
+        starts: Vec<u8>,
+        arcs: Vec<LocalArc>,
+    ) -> Result<Role, RoleFault>
+        ensures role { IfOk result (λ r. r ≡ record { name = name; locals = locals.items; starts = starts.items; arcs = arcs.items }) }
+        ensures lawful { IfOk result (λ r. AreLawful locals.items starts.items arcs.items) }
+        ensures accepts { AreLawful locals.items starts.items arcs.items → IsOk result }
+        ensures fault { IfErr result (IsFirstRoleFault locals.items starts.items arcs.items) }
+    {
+        Role::of(name, locals, Starts::Several(starts), arcs)
+    }
+
+    fn of(
+        name: Name,
+        locals: Vec<Name>,
+        starts: Starts,
+        arcs: Vec<LocalArc>,
+    ) -> Result<Role, RoleFault>
+        ensures role { IfOk result (λ r. r ≡ record { name = name; locals = locals.items; starts = starts_of starts; arcs = arcs.items }) }
+        ensures lawful { IfOk result (λ r. AreLawful locals.items (starts_of starts) arcs.items) }
+        ensures accepts { AreLawful locals.items (starts_of starts) arcs.items → IsOk result }
+        ensures fault { IfErr result (IsFirstRoleFault locals.items (starts_of starts) arcs.items) }
+    {
+        match fault_of(&locals, starts.as_slice(), &arcs) {
             Some(fault) => Err(fault),
             None => Ok(Role {
                 name,
                 locals,
-                start,
+                starts,
                 arcs,
             }),
         }
@@ -66,11 +99,19 @@ impl Role {
         &self.locals
     }
 
-    /// The number of the local state where the role starts.
-    pub fn start(&self) -> u8
-        ensures { result ≡ self.now.start }
+    /// The numbers of the local states where the role may start, in their order; there is one at least.
+    pub fn starts(&self) -> &[u8]
+        ensures starts { result.now ≡ self.now.starts }
+        ensures role { IsRole self.now }
     {
-        self.start
+        self.starts.as_slice()
+    }
+
+    /// The first of the starts.
+    pub fn start(&self) -> u8
+        ensures { result ≡ first_start self.now }
+    {
+        self.starts()[0]
     }
 
     /// The arcs, in the order of their numbers.
@@ -80,6 +121,20 @@ impl Role {
         &self.arcs
     }
 
+    /// The role with this start alone.
+    #[tactic(auto, using(crate::proofs::OneStart::starting_is_role))]
+    pub fn starting_at(&self, alloc: Global, start: u8) -> Result<Role, Memory>
+        requires { start < length self.now.locals }
+        ensures { IfOk result (λ r. r ≡ starting_at self.now start) }
+    {
+        Ok(Role {
+            name: self.name.copy(alloc)?,
+            locals: copies_of(alloc, &self.locals)?,
+            starts: Starts::One([start]),
+            arcs: Vec::from_slice(alloc, &self.arcs)?,
+        })
+    }
+
     /// An equal role.
     pub fn copy(&self, alloc: Global) -> Result<Role, Memory>
         ensures { IfOk result (λ r. r ≡ self.now) }
@@ -87,7 +142,7 @@ impl Role {
         Ok(Role {
             name: self.name.copy(alloc)?,
             locals: copies_of(alloc, &self.locals)?,
-            start: self.start,
+            starts: self.starts.copy(alloc)?,
             arcs: Vec::from_slice(alloc, &self.arcs)?,
         })
     }

@@ -2,7 +2,7 @@ ghost use Rattle.std.specs.Prelude.{◌≡◌, ◌↔◌, ◌<◌, ◌≤◌, �
 ghost use Rattle.pair_structure.specs.declared.side.LocalArc.{LocalArc};
 ghost use Rattle.pair_structure.specs.inside.Least.{IsLeast};
 ghost use Rattle.pair_structure.specs.Role.{AreLawful, HasArc, HasArcFrom};
-ghost use Rattle.pair_structure.specs.RoleFault.{IsFirstRoleFault, NoneBefore, HasEarlierName, EndsOutside, JoinsItself, HasEarlierEnds, IsNeverLeft};
+ghost use Rattle.pair_structure.specs.RoleFault.{IsFirstRoleFault, NoneBefore, HasEarlierName, StartsOutside, HasEarlierStart, EndsOutside, JoinsItself, HasEarlierEnds, IsNeverLeft};
 
 use crate::{LocalArc, MAX_ARCS, MAX_LOCALS, Name};
 use thiserror::Error;
@@ -20,9 +20,15 @@ pub enum RoleFault {
     /// A local state has the name of an earlier one; it is the later that is named.
     #[error("local state {local} has the name of an earlier one")]
     LocalTwice { local: u8 },
-    /// The start is no local state.
+    /// There is no start.
+    #[error("no start")]
+    NoStart,
+    /// A start is no local state.
     #[error("the start is no local state")]
     StartRange,
+    /// A start is an earlier one again; it is the place of the later that is named.
+    #[error("start {place} is an earlier one again")]
+    StartTwice { place: u32 },
     /// There are more than 128 arcs.
     #[error("more than 128 arcs")]
     TooManyArcs,
@@ -41,18 +47,21 @@ pub enum RoleFault {
 }
 
 /// The first fault of these parts, if they have one.
-pub(crate) fn fault_of(locals: &[Name], start: u8, arcs: &[LocalArc]) -> Option<RoleFault>
-    ensures { MatchOption result (AreLawful locals.now start arcs.now) (IsFirstRoleFault locals.now start arcs.now) }
+pub(crate) fn fault_of(locals: &[Name], starts: &[u8], arcs: &[LocalArc]) -> Option<RoleFault>
+    ensures { MatchOption result (AreLawful locals.now starts.now arcs.now) (IsFirstRoleFault locals.now starts.now arcs.now) }
 {
-    if let Some(fault) = fault_of_locals(locals, start) {
+    if let Some(fault) = fault_of_locals(locals) {
+        return Some(fault);
+    }
+    if let Some(fault) = fault_of_starts(locals, starts) {
         return Some(fault);
     }
     fault_of_arcs(locals, arcs)
 }
 
-fn fault_of_locals(locals: &[Name], start: u8) -> Option<RoleFault>
-    ensures { (arcs : List LocalArc) →
-        MatchOption result (NoneBefore locals.now start arcs RoleFault.TooManyArcs) (IsFirstRoleFault locals.now start arcs) }
+fn fault_of_locals(locals: &[Name]) -> Option<RoleFault>
+    ensures { (starts : List ℕ) (arcs : List LocalArc) →
+        MatchOption result (NoneBefore locals.now starts arcs RoleFault.NoStart) (IsFirstRoleFault locals.now starts arcs) }
 {
     if locals.is_empty() {
         return Some(RoleFault::NoLocal);
@@ -62,9 +71,6 @@ fn fault_of_locals(locals: &[Name], start: u8) -> Option<RoleFault>
     }
     if let Some(local) = first_repeated_name(locals) {
         return Some(RoleFault::LocalTwice { local: local as u8 });
-    }
-    if start as usize >= locals.len() {
-        return Some(RoleFault::StartRange);
     }
     None
 }
@@ -86,10 +92,52 @@ fn has_name(names: &[Name], name: &Name) -> bool
     names.iter().any(|other| other.is_same(name))
 }
 
+fn fault_of_starts(locals: &[Name], starts: &[u8]) -> Option<RoleFault>
+    requires { length locals.now ≤ MAX_LOCALS }
+    ensures { (arcs : List LocalArc) → NoneBefore locals.now starts.now arcs RoleFault.NoStart →
+        MatchOption result (NoneBefore locals.now starts.now arcs RoleFault.TooManyArcs) (IsFirstRoleFault locals.now starts.now arcs) }
+{
+    if starts.is_empty() {
+        return Some(RoleFault::NoStart);
+    }
+    if some_outside(locals.len(), starts) {
+        return Some(RoleFault::StartRange);
+    }
+    if let Some(place) = first_repeated_start(starts) {
+        return Some(RoleFault::StartTwice {
+            place: place as u32,
+        });
+    }
+    None
+}
+
+fn some_outside(count: usize, starts: &[u8]) -> bool
+    ensures { IsTrue result ↔ StartsOutside count starts.now }
+{
+    starts.iter().any(|start| *start as usize >= count)
+}
+
+fn first_repeated_start(starts: &[u8]) -> Option<usize>
+    ensures { IsLeast (HasEarlierStart starts.now) (length starts.now) result }
+{
+    for (place, start) in starts.iter().enumerate() {
+        if has_start(&starts[..place], *start) {
+            return Some(place);
+        }
+    }
+    None
+}
+
+fn has_start(starts: &[u8], start: u8) -> bool
+    ensures { IsTrue result ↔ Any (λ other. other ≡ start) starts.now }
+{
+    starts.iter().any(|other| *other == start)
+}
+
 fn fault_of_arcs(locals: &[Name], arcs: &[LocalArc]) -> Option<RoleFault>
     requires { length locals.now ≤ MAX_LOCALS }
-    ensures { (start : ℕ) → NoneBefore locals.now start arcs.now RoleFault.TooManyArcs →
-        MatchOption result (AreLawful locals.now start arcs.now) (IsFirstRoleFault locals.now start arcs.now) }
+    ensures { (starts : List ℕ) → NoneBefore locals.now starts arcs.now RoleFault.TooManyArcs →
+        MatchOption result (AreLawful locals.now starts arcs.now) (IsFirstRoleFault locals.now starts arcs.now) }
 {
     if arcs.len() > MAX_ARCS {
         return Some(RoleFault::TooManyArcs);

@@ -1,5 +1,5 @@
 /// One of the two processes of a pair.
-#[derive(Clone, Copy, Debug, PartialEq, Eq, PartialOrd, Ord)]
+#[derive(Clone, Copy, Debug, PartialEq, Eq, PartialOrd, Ord, Hash)]
 pub enum Side {
     A,
     B,
@@ -14,7 +14,7 @@ pub struct LocalArc {
 }
 
 /// A move of a pair structure, from a state to a state, by one side. Moves are ordered by `from`, then a before b, then `to`.
-#[derive(Clone, Copy, Debug, PartialEq, Eq, PartialOrd, Ord)]
+#[derive(Clone, Copy, Debug, PartialEq, Eq, PartialOrd, Ord, Hash)]
 pub struct Move {
     pub from: u64,
     pub side: Side,

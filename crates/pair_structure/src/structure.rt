@@ -1,13 +1,13 @@
-ghost use Rattle.std.specs.Prelude.{◌≡◌, ◌≢◌, ◌↔◌, ◌<◌, ℕ, filter, length, IsTrue, IfOk, IfErr, MatchOption};
+ghost use Rattle.std.specs.Prelude.{◌≡◌, ◌≢◌, ◌↔◌, ◌<◌, ◌≤◌, ℕ, filter, length, IsTrue, IfOk, IfErr, MatchOption};
 ghost use Rattle.pair_structure.specs.Ordinal.{ordinal_of, IsStateAt, leaves};
-ghost use Rattle.pair_structure.specs.Structure.{Structure, GoesOn, IsPairStructure, IsOver, IsRising};
+ghost use Rattle.pair_structure.specs.Structure.{Structure, GoesOn, IsPairStructure, IsOver, IsRising, start_count};
 ghost use Rattle.pair_structure.specs.StructureFault.{IsFirstStructureFault};
 
 use crate::label_index::LabelIndex;
 use crate::moves_of::moves_of;
 use crate::structure_check::{fault_of, is_structure};
 use crate::{Memory, Move, Role, Side, StructureFault};
-use std::alloc::{AllocError, Global};
+use std::alloc::Global;
 use std::marker::Model;
 
 /// A pair structure: states that are labelled with a local state of each of two roles, and moves between them.
@@ -47,11 +47,12 @@ impl PairStructure {
         }
         match PairStructure::of(alloc, states, moves) {
             Ok(m) => Ok(m),
-            Err(AllocError) => Err(StructureFault::Memory),
+            Err(Memory) => Err(StructureFault::Memory),
         }
     }
 
-    fn of(alloc: Global, states: &[(u8, u8)], moves: &[Move]) -> Result<PairStructure, AllocError>
+    /// The structure with these states and moves, with no word of roles. Linear in states and moves.
+    pub fn of(alloc: Global, states: &[(u8, u8)], moves: &[Move]) -> Result<PairStructure, Memory>
         requires goes_on { GoesOn (record { states = states.now; moves = moves.now }) }
         requires rising { IsRising moves.now }
         ensures { IfOk result (λ m. m ≡ record { states = states.now; moves = moves.now }) }
@@ -108,10 +109,23 @@ impl PairStructure {
         is_structure(a, b, self.states(), self.moves())
     }
 
+    /// How many start states there are over the two roles: one for each start of a with each of b. They come first.
+    #[tactic(auto, using(crate::proofs::StartRows::starts_within))]
+    pub fn start_count(&self, a: &Role, b: &Role) -> u64
+        requires { IsOver a.now b.now self.now }
+        ensures count { result ≡ start_count a.now b.now }
+        ensures some { 0 < result }
+        ensures within { result ≤ length self.now.states }
+    {
+        // There are as many states at least, and so the product fits.
+        let _count = self.states().len();
+        a.starts().len() as u64 * b.starts().len() as u64
+    }
+
     /// An equal structure.
     pub fn copy(&self, alloc: Global) -> Result<PairStructure, Memory>
         ensures { IfOk result (λ m. m ≡ self.now) }
     {
-        Ok(PairStructure::of(alloc, self.states(), self.moves())?)
+        PairStructure::of(alloc, self.states(), self.moves())
     }
 }

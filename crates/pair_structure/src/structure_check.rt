@@ -9,6 +9,7 @@ ghost use Rattle.pair_structure.specs.StructureFault.{IsFirstStructureFault};
 use crate::move_check::{
     first_moving_other, first_not_rising, first_off_arcs, first_out_of_range, first_without_move,
 };
+use crate::start_check::have_starts;
 use crate::{LocalArc, Move, Role, StructureFault};
 
 /// The first fault that stands against states and moves over two roles. Linear in states and moves; takes no memory.
@@ -51,7 +52,7 @@ fn label_fault(a: &Role, b: &Role, states: &[(u8, u8)]) -> Option<StructureFault
     if states.is_empty() {
         return Some(StructureFault::Empty);
     }
-    if states[0] != (a.start(), b.start()) {
+    if !have_starts(a, b, states) {
         return Some(StructureFault::Start);
     }
     match first_off_label(a.locals().len(), b.locals().len(), states) {

@@ -7,8 +7,8 @@ pub enum StructureFault {
     /// There is no state.
     #[error("no state")]
     Empty,
-    /// State 0 has another label than the two starts.
-    #[error("state 0 is not labelled with the starts")]
+    /// There are fewer states than start states, or a start state has another label.
+    #[error("the first states are not labelled with the starts")]
     Start,
     /// The label of the state names no local state.
     #[error("the label of state {state} names no local state")]

@@ -1,8 +1,9 @@
 -- A tableau's children cover what states make true.
 use Rattle.std.proofs.Common.{ℕ, ◌≡◌, ◌<◌, inl, inr, Option, Some, None, List, [], ◌∷◌, length, refl, subst, sym, ◌∙◌, ap, arith, slice_get}
 use Rattle.std.proofs.lemmas.List.Elements.{All-contains}
-use Rattle.std.proofs.lemmas.Option.{slice_get-get_or, slice_get_within, get_or_from_slice_get}
-use Rattle.pair_structure.specs.Role.{RoleParts}
+use Rattle.std.proofs.lemmas.Option.{slice_get-get_or, get_or_from_slice_get}
+use Rattle.pair_structure.specs.Role.{RoleParts, first_start}
+use Rattle.pair_structure.proofs.FirstState.{first_state}
 use Rattle.pair_structure.specs.Structure.{Structure, HasMove, IsOver, IsLawfulMove, label_at}
 use Rattle.pair_structure.specs.declared.side.Move.{Move}
 use Rattle.pair_structure.specs.declared.side.Side.{Side}
@@ -49,11 +50,11 @@ root_reached a b found origin to e same = subst (λ o. LeadsTo a b o origin to) 
 
 pub tableau_root_covers : ExpansionCovers → TableauRootCovers
 tableau_root_covers covers t k m over holds chosen lawful =
-    let start : ℕ × ℕ = (t.a.start, t.b.start) in
-    let lt : 0 < length m.states = slice_get_within m.states 0 start over.start in
-    let label : label_at m.states 0 ≡ start = get_or_from_slice_get m.states 0 start (0, 0) over.start in
+    let start : ℕ × ℕ = (first_start t.a, first_start t.b) in
+    let first : slice_get m.states 0 ≡ Some start = first_state t.a t.b m.states over.starts k.rules.role_a.begins k.rules.role_b.begins in
+    let label : label_at m.states 0 ≡ start = get_or_from_slice_get m.states 0 start (0, 0) first in
     let seed : Members = seed_of (or_at t.ors 0) in
     let some : 0 < length t.ors = k.rules.some in
     let same : length t.children ≡ length t.ors = k.all_ors in
     let leads : LeadsTo t.a t.b (or_at t.ors 0).side (origin_of (or_at t.ors 0)) start = root_reached t.a t.b (or_at t.ors 0).side (origin_of (or_at t.ors 0)) start k.rules.root.sided (sym k.rules.root.origin) in
-    met_child t.closure (graph_of t) m 0 0 start chosen (expansion t.closure start seed) over.start (covers t.closure start seed k.rules.closure m over.goes_on 0 lt label holds chosen lawful) ((k.rules.children 0 (omega (arith, some, same))).all start leads)
+    met_child t.closure (graph_of t) m 0 0 start chosen (expansion t.closure start seed) first (covers t.closure start seed k.rules.closure m over.goes_on 0 over.some label holds chosen lawful) ((k.rules.children 0 (omega (arith, some, same))).all start leads)

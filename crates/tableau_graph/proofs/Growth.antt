@@ -153,6 +153,8 @@ or_expanded t ands pairs nodes numbers rules unexpanded leads are numbered apart
   closure = rules.closure;
   role_a = rules.role_a;
   role_b = rules.role_b;
+  one_a = rules.one_a;
+  one_b = rules.one_b;
   some = rules.some;
   root = record { sided = rules.root.sided; origin = rules.root.origin; seed = rules.root.seed };
   ands_apart = apart;
@@ -199,6 +201,8 @@ and_expanded t ors nodes numbers rules unexpanded are numbered apart = record {
   closure = rules.closure;
   role_a = rules.role_a;
   role_b = rules.role_b;
+  one_a = rules.one_a;
+  one_b = rules.one_b;
   some = kept_within t.ors ors (or_at [] 0) numbered.kept 0 rules.some;
   root = subst (IsRoot (with_nodes t t.ands ors t.children (t.successors ++ numbers ∷ []))) (sym (kept_at t.ors ors (or_at [] 0) numbered.kept 0 rules.some)) (record { sided = rules.root.sided; origin = rules.root.origin; seed = rules.root.seed });
   ands_apart = rules.ands_apart;

@@ -3,7 +3,7 @@ use Rattle.std.proofs.Common.{ℕ, ◌≡◌, ◌<◌, ◌+◌, ◌++◌, ◌↔
 use Rattle.std.proofs.lemmas.List.{take_more}
 use Rattle.std.proofs.lemmas.List.Elements.{Contains-push, Contains-push_cases, Contains-append_left}
 use Rattle.std.proofs.lemmas.Option.{none-some, slice_get_within}
-use Rattle.pair_structure.specs.Role.{IsRole}
+use Rattle.pair_structure.specs.Role.{IsRole, HasOneStart}
 use Rattle.closure_sets.specs.ClosureParts.{IsClosureParts}
 use Rattle.closure_sets.specs.Expansion.{no_members}
 use Rattle.closure_sets.specs.Full.{Has}
@@ -40,11 +40,13 @@ one_apart x n k node e f = let lt : n < 1 = slice_get_within (x ∷ []) n node e
 none_apart : {N : Type 0} → AreApart {N = N} []
 none_apart n k node e f = let lt : n < 0 = slice_get_within [] n node e in absurd (omega (arith, lt))
 
-pub root_follows : (t : TableauParts) → IsClosureParts t.closure → IsRole t.a → IsRole t.b → t.ands ≡ [] → t.children ≡ [] → t.successors ≡ [] → (root : OrNode) → t.ors ≡ root ∷ [] → IsRoot t root → FollowsRules t
-root_follows t closure role_a role_b no_ands no_children no_successors root only is = record {
+pub root_follows : (t : TableauParts) → IsClosureParts t.closure → IsRole t.a → IsRole t.b → HasOneStart t.a → HasOneStart t.b → t.ands ≡ [] → t.children ≡ [] → t.successors ≡ [] → (root : OrNode) → t.ors ≡ root ∷ [] → IsRoot t root → FollowsRules t
+root_follows t closure role_a role_b one_a one_b no_ands no_children no_successors root only is = record {
   closure = closure;
   role_a = role_a;
   role_b = role_b;
+  one_a = one_a;
+  one_b = one_b;
   some = omega (arith, one);
   root = subst (λ (l : List OrNode). IsRoot t (or_at l 0)) (sym only) is;
   ands_apart = subst AreApart (sym no_ands) none_apart;

@@ -1,6 +1,6 @@
 -- A graph of AND and OR nodes by number, as the rules of deletion and unravelling speak of it, and what a tableau's graph is.
 use Rattle.std.specs.Prelude.{ℕ, ◌≡◌, ◌<◌, false, List, Contains, length, Some, slice_get}
-use Rattle.pair_structure.specs.Role.{RoleParts}
+use Rattle.pair_structure.specs.Role.{RoleParts, first_start}
 use Rattle.pair_structure.specs.Structure.{Structure, HasMove, IsOver}
 use Rattle.pair_structure.specs.declared.side.Side.{Side}
 use Rattle.ctl_form.specs.declared.part.Part.TheVariants.{Next}
@@ -42,7 +42,7 @@ FollowArcs a b c g = (n i h child : ℕ) (side : Side) → IsSomeNext c g n i si
 
 -- the children of the root are where both start
 abbrev pub StartsAtRoot : RoleParts → RoleParts → Graph → ℕ → Type 0
-StartsAtRoot a b g root = (child : ℕ) → Contains (g.children root) child → g.label child ≡ (a.start, b.start)
+StartsAtRoot a b g root = (child : ℕ) → Contains (g.children root) child → g.label child ≡ (first_start a, first_start b)
 
 -- some child of the OR node has this label and this row
 abbrev pub HasChild : Graph → ℕ → ℕ × ℕ → Members → Type 0

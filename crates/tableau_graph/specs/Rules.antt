@@ -1,6 +1,6 @@
 -- The rules that make a tableau (Emerson and Clarke 1982).
 use Rattle.std.specs.Prelude.{ℕ, zero, suc, ◌≡◌, ◌<◌, ◌≤◌, ◌⊎◌, ◌↔◌, false, true, Option, Some, None, List, length, Contains, slice_get}
-use Rattle.pair_structure.specs.Role.{RoleParts, IsRole}
+use Rattle.pair_structure.specs.Role.{RoleParts, IsRole, HasOneStart, first_start}
 use Rattle.pair_structure.specs.Structure.{TakesArc, OtherStays}
 use Rattle.pair_structure.specs.declared.side.Side.{Side}
 use Rattle.ctl_form.specs.declared.part.Part.TheVariants.{Next}
@@ -27,10 +27,10 @@ LeadsTo a b (Some side) from to = Follows a b side from to
 abbrev pub IsCarried : ClosureParts → Members → Side → ℕ → Members → Type 0
 IsCarried c row side h seed = (j : ℕ) → Has seed j ↔ ((j ≡ h) ⊎ ((x : ℕ) × (part_of c x ≡ Next true side j) × Has row x))
 
--- the node without a side, with the starts, and the roots of all conjuncts
+-- the node without a side, with the start of each role, and the roots of all conjuncts
 pub record IsRoot (t : TableauParts) (node : OrNode) : Type 0 where
   pub sided : node.side ≡ None
-  pub origin : origin_of node ≡ (t.a.start, t.b.start)
+  pub origin : origin_of node ≡ (first_start t.a, first_start t.b)
   pub seed : (j : ℕ) → Has (seed_of node) j ↔ Contains t.closure.roots j
 
 -- the AND node has a pair that the OR node leads to, and a row of the expansion of its row there
@@ -75,11 +75,13 @@ IsReachedAnd t n = (o : ℕ) × IsReachedOr t o × Contains (edges_at t.children
 abbrev pub AreApart : {N : Type 0} → List N → Type 0
 AreApart {N} nodes = (n k : ℕ) (node : N) → slice_get nodes n ≡ Some node → slice_get nodes k ≡ Some node → n ≡ k
 
--- no two nodes of a kind have one label, and the nodes that are expanded are so by the rules
+-- each role has one start, no two nodes of a kind have one label, and the nodes that are expanded are so by the rules
 pub record FollowsRules (t : TableauParts) : Type 0 where
   pub closure : IsClosureParts t.closure
   pub role_a : IsRole t.a
   pub role_b : IsRole t.b
+  pub one_a : HasOneStart t.a
+  pub one_b : HasOneStart t.b
   pub some : 0 < length t.ors
   pub root : IsRoot t (or_at t.ors 0)
   pub ands_apart : AreApart t.ands

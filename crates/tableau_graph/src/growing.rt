@@ -1,7 +1,7 @@
 ghost use Rattle.std.specs.Prelude.{◌≡◌, ◌<◌, ◌↔◌, ℕ, Contains, IfOk, OnOk, length, true, false};
 ghost use Rattle.closure_sets.specs.Full.{Has};
 ghost use Rattle.closure_sets.specs.Row.{set_of};
-ghost use Rattle.pair_structure.specs.Role.{IsRole};
+ghost use Rattle.pair_structure.specs.Role.{IsRole, HasOneStart, first_start};
 ghost use Rattle.tableau_graph.specs.Growing.{parts_of, room_of};
 ghost use Rattle.tableau_graph.specs.Rules.{FollowsRules, IsTableau};
 ghost use Rattle.tableau_graph.specs.TableauParts.{and_at, or_at};
@@ -26,6 +26,8 @@ pub(crate) struct Growing {
 impl Growing {
     /// The root alone.
     pub(crate) fn start(alloc: Global, c: &Closure, a: &Role, b: &Role) -> Result<Growing, Memory>
+        requires one_a { HasOneStart a.now }
+        requires one_b { HasOneStart b.now }
         ensures { IfOk result (λ g. FollowsRules (parts_of c.now a.now b.now g)) }
     {
         c.tell_members();
@@ -113,8 +115,8 @@ impl Growing {
 
 fn root_node(c: &Closure, a: &Role, b: &Role) -> OrNode
     ensures side { result.side ≡ None }
-    ensures a { result.a ≡ a.now.start }
-    ensures b { result.b ≡ b.now.start }
+    ensures a { result.a ≡ first_start a.now }
+    ensures b { result.b ≡ first_start b.now }
     ensures seed { (j : ℕ) → Has (set_of result.row.words) j ↔ Contains c.now.roots j }
 {
     OrNode {

@@ -1,4 +1,5 @@
 ghost use Rattle.std.specs.Prelude.{◌≡◌, ◌<◌, IfOk, length};
+ghost use Rattle.pair_structure.specs.Role.{HasOneStart};
 ghost use Rattle.tableau_graph.specs.Growing.{parts_of};
 ghost use Rattle.tableau_graph.specs.Rules.{IsTableau};
 ghost use Rattle.tableau_graph.specs.TableauParts.{edges_at};
@@ -35,9 +36,11 @@ impl Model for Tableau {
 }
 
 impl Tableau {
-    /// The graph of the closure's roots over the two roles. Each node is expanded once: an OR node by an expansion of its row at each end of an
+    /// The graph of the closure's roots over the two roles, each with one start. Each node is expanded once: an OR node by an expansion of its row at each end of an
     /// arc, an AND node in time linear in the closure.
     pub fn build(alloc: Global, c: &Closure, a: &Role, b: &Role) -> Result<Tableau, Memory>
+        requires one_a { HasOneStart a.now }
+        requires one_b { HasOneStart b.now }
         ensures closure { IfOk result (λ t. t.closure ≡ c.now) }
         ensures a { IfOk result (λ t. t.a ≡ a.now) }
         ensures b { IfOk result (λ t. t.b ≡ b.now) }
@@ -120,6 +123,8 @@ impl Tableau {
 }
 
 fn grown(alloc: Global, c: &Closure, a: &Role, b: &Role) -> Result<Growing, Memory>
+    requires one_a { HasOneStart a.now }
+    requires one_b { HasOneStart b.now }
     ensures { IfOk result (λ g. IsTableau (parts_of c.now a.now b.now g)) }
 {
     let mut growing = Growing::start(alloc, c, a, b)?;

@@ -3,7 +3,7 @@ use Rattle.std.specs.Prelude.{ℕ, ◌≡◌, ◌<◌, ◌+◌, List, length, An
 use Rattle.pair_structure.specs.declared.side.LocalArc.{LocalArc}
 use Rattle.pair_structure.specs.declared.side.Move.{Move}
 use Rattle.pair_structure.specs.Role.{RoleParts}
-use Rattle.pair_structure.specs.Structure.{label_at, TakesArc, OtherStays, IsBefore}
+use Rattle.pair_structure.specs.Structure.{label_at, HaveStarts, TakesArc, OtherStays, IsBefore}
 use Rattle.pair_structure.specs.StructureFault.{move_at, label_from, label_to}
 
 -- the label of the state is within so many local states of each side
@@ -28,10 +28,10 @@ RisesAt moves n = (before : ℕ) → before + 1 ≡ n → IsBefore (move_at move
 abbrev pub IsLeft : List Move → ℕ → Type 0
 IsLeft moves state = Any (λ (move : Move). move.from ≡ state) moves
 
--- there is a state; the first has the label of both starts, and each a label
+-- there is a state; the start states come first, and each state has a label
 pub record AreLabelled (a b : RoleParts) (states : List (ℕ × ℕ)) : Type 0 where
   pub some : 0 < length states
-  pub start : label_at states 0 ≡ (a.start, b.start)
+  pub starts : HaveStarts a b states
   pub labels : (s : ℕ) → s < length states → IsLabelBelow (length a.locals) (length b.locals) states s
 
 -- each move is lawful, and comes after the one before it

@@ -1,24 +1,18 @@
 use Rattle.std.proofs.Common.{ℕ, ◌≡◌, ◌≢◌, ◌==◌, false, length, eq-eqb}
-use Rattle.pair_structure.proofs.RoleFaultLaws.{none_before_LocalTwice, none_before_StartRange, none_before_TooManyArcs, first_LocalTwice, first_StartRange}
+use Rattle.pair_structure.proofs.RoleFaultLaws.{none_before_LocalTwice, none_before_NoStart, first_LocalTwice}
 use Rattle.pair_structure.proofs.role_fault.fault_of_locals.Goals as goal
 
 some : (n : ℕ) → false ≡ (n == 0) → n ≢ 0
 some n not_empty empty = let is = eq-eqb n 0 empty in cc
 
 pub returns-in-Some : goal.returns-in-Some
-returns-in-Some c = λ arcs.
+returns-in-Some c = λ starts arcs.
     let locals = c.args.locals.now in
-    let before = none_before_LocalTwice locals c.args.start arcs (some (length locals) c.if-is_empty.ensures) c.if-locals-gt-MAX_LOCALS.false in
-    first_LocalTwice locals c.args.start arcs c.in-Some.local before c.in-Some.ensures
-
-pub returns-then-start-locals : goal.returns-then-start-locals
-returns-then-start-locals c = λ arcs.
-    let locals = c.args.locals.now in
-    let before = none_before_LocalTwice locals c.args.start arcs (some (length locals) c.if-is_empty.ensures) c.if-locals-gt-MAX_LOCALS.false in
-    first_StartRange locals c.args.start arcs (none_before_StartRange locals c.args.start arcs before c.in_default.ensures) c.if-start-locals.true
+    let before = none_before_LocalTwice locals starts arcs (some (length locals) c.if-is_empty.ensures) c.if-locals-gt-MAX_LOCALS.false in
+    first_LocalTwice locals starts arcs c.in-Some.local before c.in-Some.ensures
 
 pub returns : goal.returns
-returns c = λ arcs.
+returns c = λ starts arcs.
     let locals = c.args.locals.now in
-    let before = none_before_LocalTwice locals c.args.start arcs (some (length locals) c.if-is_empty.ensures) c.if-locals-gt-MAX_LOCALS.false in
-    none_before_TooManyArcs locals c.args.start arcs (none_before_StartRange locals c.args.start arcs before c.in_default.ensures) c.if-start-locals.false
+    let before = none_before_LocalTwice locals starts arcs (some (length locals) c.if-is_empty.ensures) c.if-locals-gt-MAX_LOCALS.false in
+    none_before_NoStart locals starts arcs before c.in_default.ensures

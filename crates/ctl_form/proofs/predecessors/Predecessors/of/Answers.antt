@@ -1,5 +1,6 @@
 use Rattle.std.proofs.Common.{◌≡◌, ap, subst, length, arith}
-use Rattle.ctl_form.specs.inside.Predecessors.{AddsSources, ArePartsOf}
+use Rattle.ctl_form.specs.inside.Predecessors.{AddsSources}
+use Rattle.ctl_form.specs.Predecessors.{ArePartsOf}
 use Rattle.ctl_form.proofs.MovePlaces.{has_move_at}
 use Rattle.ctl_form.proofs.PredecessorSteps.{ArePartsOf-push}
 use Rattle.ctl_form.proofs.predecessors.Predecessors.of.Goals as goal

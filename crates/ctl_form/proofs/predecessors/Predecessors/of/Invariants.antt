@@ -1,4 +1,4 @@
-use Rattle.ctl_form.specs.inside.Predecessors.{ArePartsOf}
+use Rattle.ctl_form.specs.Predecessors.{ArePartsOf}
 use Rattle.ctl_form.proofs.predecessors.Predecessors.of.Given as goal
 
 abbrev pub invariant-loop-state : goal.invariant-loop-state

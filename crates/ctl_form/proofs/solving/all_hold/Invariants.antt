@@ -1,11 +1,11 @@
-use Rattle.std.proofs.Common.{All, map, take}
+use Rattle.std.proofs.Common.{ℕ, ◌<◌, All, map, take}
 use Rattle.ctl_form.specs.Form.{form_of}
 use Rattle.ctl_form.specs.inside.Known.{AreKnown}
 use Rattle.ctl_form.specs.Truth.{Holds}
-use Rattle.ctl_form.proofs.solving.each_holds.Given as goal
+use Rattle.ctl_form.proofs.solving.all_hold.Given as goal
 
 abbrev pub invariant-loop-form : goal.invariant-loop-form
 invariant-loop-form l = record {
   known : AreKnown l.m l.known;
-  holds : All (λ f. Holds l.m f 0) (map form_of (take l.form-index l.forms));
+  holds : (s : ℕ) → s < l.count → All (λ f. Holds l.m f s) (map form_of (take l.form-index l.forms));
 }
