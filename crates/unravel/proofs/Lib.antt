@@ -1,9 +1,14 @@
 pub mod BestLaws
 pub mod Expanding
 pub mod GrowingLaws
+pub mod JoinRows
+pub mod JoinedNext
+pub mod JoinedWhole
 pub mod Nodes
 pub mod Plans
 pub mod Pursuits
+pub mod Renumbered
+pub mod StartLabels
 pub mod Stepping
 pub mod Synthesized
 pub mod Whole

@@ -2,7 +2,7 @@
 use Rattle.std.proofs.Common.{ℕ, ◌≡◌, ◌<◌, ◌≤◌, ◌↔◌, inl, List, All, Contains, length, map, arith, ap, ◌∙◌}
 use Rattle.std.proofs.lemmas.List.{length-map}
 use Rattle.std.proofs.lemmas.List.Elements.{All-from_get_or}
-use Rattle.pair_structure.specs.Role.{RoleParts}
+use Rattle.pair_structure.specs.Role.{RoleParts, first_start}
 use Rattle.pair_structure.specs.Structure.{IsOver, IsPairStructure, IsRising, Structure}
 use Rattle.pair_structure.specs.declared.side.Move.{Move}
 use Rattle.pair_structure.specs.declared.side.Side.{Side}
@@ -58,7 +58,7 @@ module _ (is : TableauIsGraph) (r : RankParts) (alive : IsAlive r) (targets : Li
   sized : 0 < length plan.targets → places targets ≤ length plan.targets
   sized some = let e : length (map member_of targets) ≡ length targets = length-map targets member_of in omega (arith, e, some)
 
-  starts : (graph_of r.tableau).label (position_at positions 0).node ≡ (r.tableau.a.start, r.tableau.b.start)
+  starts : (graph_of r.tableau).label (position_at positions 0).node ≡ (first_start r.tableau.a, first_start r.tableau.b)
   starts = tableau_starts r.tableau alive.tableau (position_at positions 0).node grown.first
 
   links : (x : Move) → Contains arranged x → (x.from < length positions) × (x.to < length positions) × Leads r.tableau.closure (graph_of r.tableau) plan (position_at positions x.from) x.side (position_at positions x.to)
@@ -68,10 +68,10 @@ module _ (is : TableauIsGraph) (r : RankParts) (alive : IsAlive r) (targets : Li
   goes s i h side lt some = let u = grown.goes s i h side lt (inl lt) some in (u.0, u.1.to, (same (record { from = s; side = side; to = u.0 })).1 u.1.move, u.1.step)
 
   pub whole_over : IsOver r.tableau.a r.tableau.b whole
-  whole_over = over_of r.tableau.a r.tableau.b r.tableau.closure alive.tableau.rules.closure (graph_of r.tableau) graph arcs (lives_at r) (rank_at r) alive.kept plan planned turns (places targets) sized nowhere positions arranged starts grown.some grown.good rising links goes
+  whole_over = over_of r.tableau.a r.tableau.b r.tableau.closure alive.tableau.rules.closure (graph_of r.tableau) graph arcs (lives_at r) (rank_at r) alive.kept plan planned turns (places targets) sized nowhere positions arranged alive.tableau.rules.one_a alive.tableau.rules.one_b starts grown.some grown.good rising links goes
 
   whole_unravelled : IsUnravelled r.tableau.closure (graph_of r.tableau) whole plan (position_at positions)
-  whole_unravelled = unravelled_of r.tableau.a r.tableau.b r.tableau.closure alive.tableau.rules.closure (graph_of r.tableau) graph arcs (lives_at r) (rank_at r) alive.kept plan planned turns (places targets) sized nowhere positions arranged starts grown.some grown.good rising links goes
+  whole_unravelled = unravelled_of r.tableau.a r.tableau.b r.tableau.closure alive.tableau.rules.closure (graph_of r.tableau) graph arcs (lives_at r) (rank_at r) alive.kept plan planned turns (places targets) sized nowhere positions arranged alive.tableau.rules.one_a alive.tableau.rules.one_b starts grown.some grown.good rising links goes
 
   pub whole_satisfies : UnravelledSatisfies → Satisfies r.tableau.a r.tableau.b r.tableau.closure whole
   whole_satisfies law = law r.tableau alive.tableau whole plan (position_at positions) whole_over whole_unravelled grown.first

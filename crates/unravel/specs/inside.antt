@@ -2,5 +2,7 @@
 pub mod Alive
 pub mod Choice
 pub mod Growing
+pub mod Joined
+pub mod Joining
 pub mod Pursuit
 pub mod Targets

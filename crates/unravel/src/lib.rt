@@ -3,6 +3,7 @@
 
 mod child;
 mod growing;
+mod joining;
 mod keeper;
 mod next_time;
 mod pursuit;

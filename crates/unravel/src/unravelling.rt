@@ -83,7 +83,7 @@ fn label_of(ranks: &Ranks, and: u64) -> (u8, u8)
 }
 
 /// The structure with these states and moves, which are one over the roles.
-fn made(
+pub(crate) fn made(
     alloc: Global,
     a: &Role,
     b: &Role,

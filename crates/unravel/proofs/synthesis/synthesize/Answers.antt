@@ -1,21 +1,22 @@
-use Rattle.std.proofs.Common.{ap, subst, ◌∙◌}
-use Rattle.tableau_graph.specs.TableauParts.{TableauParts}
-use Rattle.closure_sets.specs.ClosureParts.{ClosureParts}
-use Rattle.deletion_rules.specs.Satisfying.{Satisfies}
-use Rattle.unravel.proofs.Synthesized.{alive_is, dead_is, not_satisfied, roots_satisfied}
+use Rattle.std.proofs.Common.{◌≡◌, ap, arith, length, refl, subst}
+use Rattle.pair_structure.specs.Structure.{start_count}
+use Rattle.unravel.specs.inside.Joined.{whole_of}
+use Rattle.unravel.specs.inside.Joining.{HaveRoots, IsJoined}
 use Rattle.unravel.proofs.synthesis.synthesize.Goals as goal
 
-pub returns-in-Alive : goal.returns-in-Alive
-returns-in-Alive c =
-    let t = c.in_ok-tableau.tableau in
-    let m = c.in_ok-m-in-Alive.m in
-    let built = c.in_ok-tableau.ensures in
-    let closed = c.in_ok-closure.ensures in
-    roots_satisfied c.args.a.now c.args.b.now c.args.form.now t (record { role_a = built.a; role_b = built.b; parts = ap (λ (x : ClosureParts). x.parts) built.closure ∙ closed.parts; roots = ap (λ (x : ClosureParts). x.roots) built.closure ∙ closed.roots }) m (subst (λ (x : TableauParts). Satisfies x.a x.b x.closure m) (alive_is t c.in_ok-ranks.field-0 c.in-Alive.ranks c.in-Alive.is c.in_ok-ranks.ensures) c.in_ok-m-in-Alive.ensures)
+pub made-requires-clause-some : goal.made-requires-clause-some
+made-requires-clause-some c = c.in_ok-joining.ensures.some
+
+pub made-requires-clause-joined : goal.made-requires-clause-joined
+made-requires-clause-joined c =
+    let rows : c.loop-start.start-index ≡ length c.args.a.now.starts = omega (arith, c.loop-start-test.false, c.loop-start.auto.start-index-end, ap length c.starts-start-items.ensures.starts) in
+    let all : c.loop-start.joining.begun ≡ start_count c.args.a.now c.args.b.now = rw (c.loop-start.invariant.begun, rows) refl in
+    subst (λ k. IsJoined c.args.a.now c.args.b.now k (whole_of c.loop-start.joining)) all c.loop-start.invariant.joined
 
 pub returns : goal.returns
 returns c =
-    let t = c.in_ok-tableau.tableau in
-    let built = c.in_ok-tableau.ensures in
-    let closed = c.in_ok-closure.ensures in
-    λ m. not_satisfied c.args.a.now c.args.b.now c.args.form.now t (record { role_a = built.a; role_b = built.b; parts = ap (λ (x : ClosureParts). x.parts) built.closure ∙ closed.parts; roots = ap (λ (x : ClosureParts). x.roots) built.closure ∙ closed.roots }) m built.tableau (dead_is t c.in_ok-ranks.field-0 c.in-Dead.is c.in_ok-ranks.ensures)
+    let rows : c.loop-start.start-index ≡ length c.args.a.now.starts = omega (arith, c.loop-start-test.false, c.loop-start.auto.start-index-end, ap length c.starts-start-items.ensures.starts) in
+    let all : c.loop-start.joining.begun ≡ start_count c.args.a.now c.args.b.now = rw (c.loop-start.invariant.begun, rows) refl in record {
+      over = c.in_ok-made.ensures.over;
+      roots = c.in_ok-made.ensures.roots c.args.form.now (subst (λ k. HaveRoots c.args.form.now k (whole_of c.loop-start.joining)) all c.loop-start.invariant.roots);
+    }
