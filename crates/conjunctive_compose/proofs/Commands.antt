@@ -1,11 +1,16 @@
 -- The commands of the kinds, one kind further.
-use Rattle.std.proofs.Common.{ℕ, ◌≡◌, ◌<◌, ◌+◌, inl, inr, List, [], ◌∷◌, ◌++◌, length, get_or, arith, ◌∙◌}
+use Rattle.std.proofs.Common.{ℕ, ◌≡◌, ◌<◌, ◌+◌, inl, inr, List, [], ◌∷◌, ◌++◌, length, get_or, arith, sym, subst, ◌∙◌}
 use Rattle.std.proofs.lemmas.Bool.{cases_eq}
 use Rattle.std.proofs.lemmas.List.{get_or_append_left, get_or_default, get_or_push, length-append}
-use Rattle.pair_structure.specs.Structure.{Structure}
+use Rattle.pair_structure.specs.Structure.{Structure, IsOver}
 use Rattle.skeleton_extract.specs.Commands.{IsSkeleton, Lists}
 use Rattle.interconnection.specs.Network.{NetworkParts}
-use Rattle.conjunctive_compose.specs.System.{HasCommandsBelow, no_lists, no_structure, role_a, role_b, structure_of}
+use Rattle.conjunctive_compose.specs.System.{HasCommandsBelow, HasStructures, no_lists, no_structure, role_a, role_b, structure_of}
+
+-- the structure of a kind is over the kind's roles
+pub structure_over : (net : NetworkParts) (structures : List Structure) (n : ℕ) (m : Structure) → HasStructures net structures → n < length structures → m ≡ get_or structures n m → IsOver (role_a net n) (role_b net n) m
+structure_over net structures n m have lt is =
+    subst (IsOver (role_a net n) (role_b net n)) (sym (is ∙ get_or_default structures n m no_structure lt)) (have.over n (omega (arith, lt, have.one_each)))
 
 pub commands_more : (net : NetworkParts) (structures : List Structure) (lists : List Lists) (n : ℕ) (m : Structure) (added : Lists) → n < length structures → m ≡ get_or structures n m → HasCommandsBelow n net structures lists
     → IsSkeleton (role_a net n) (role_b net n) m added → HasCommandsBelow (n + 1) net structures (lists ++ added ∷ [])

@@ -1,14 +1,18 @@
 -- What is known of one edge and of one process of a system.
-use Rattle.std.proofs.Common.{ℕ, ◌≡◌, ◌≢◌, ◌<◌, [], length, ap}
+use Rattle.std.proofs.Common.{ℕ, ◌≡◌, ◌≢◌, ◌<◌, [], length, ap, Contains}
 use Rattle.std.proofs.lemmas.List.Elements.{All-get_or}
 use Rattle.pair_structure.specs.Role.{RoleParts, IsRole}
 use Rattle.pair_structure.specs.Structure.{IsOver}
 use Rattle.skeleton_extract.specs.Commands.{IsSkeleton}
 use Rattle.interconnection.specs.declared.parts.Edge.{Edge}
 use Rattle.interconnection.specs.declared.parts.Process.{Process}
-use Rattle.interconnection.specs.Network.{HasRole, HasRoles, IsInRange, JoinsTwo, role_of as role_number}
+use Rattle.interconnection.specs.Network.{BeginsInStart, HasRole, HasRoles, IsInRange, JoinsTwo, role_of as role_number}
 use Rattle.pair_structure.specs.Parts.{role_at}
 use Rattle.conjunctive_compose.specs.System.{SystemParts, IsSystem, edge_at, edge_count, lists_at, process_count, role_a, role_b, role_of, structure_at}
+use Rattle.conjunctive_compose.specs.Whole.{start_local}
+
+abbrev nobody : Process
+nobody = record { name = []; role = 0; start = 0 }
 
 -- what edge e joins
 pub record IsLawfulEdge (sys : SystemParts) (e : ℕ) : Type 0 where
@@ -45,6 +49,7 @@ edge_kind sys e system lt = (All-get_or (IsInRange sys.network.ends sys.network.
 -- the role of a process is one
 pub role_lawful : (sys : SystemParts) (k : ℕ) → IsSystem sys → k < process_count sys → IsRole (role_of sys k)
 role_lawful sys k system lt = system.roles (role_number sys.network.processes k) (All-get_or (HasRole sys.network.roles) sys.network.processes k nobody lt system.network.own_roles)
-  where
-    nobody : Process
-    nobody = record { name = []; role = 0 }
+
+-- the start of a process is one of its role's
+pub start_lawful : (sys : SystemParts) (k : ℕ) → IsSystem sys → k < process_count sys → Contains (role_of sys k).starts (start_local sys k)
+start_lawful sys k system lt = All-get_or (BeginsInStart sys.network.roles) sys.network.processes k nobody lt system.network.own_starts

@@ -10,4 +10,5 @@ pub mod Replies
 pub mod Runs
 pub mod Setting
 pub mod Sides
+pub mod StartStates
 pub mod Starts

@@ -5,7 +5,7 @@ use Rattle.pair_structure.specs.Structure.{HasMove}
 use Rattle.conjunctive_compose.specs.declared.wish.Wish.{Wish}
 use Rattle.conjunctive_compose.specs.declared.wish.PairMove.{PairMove}
 use Rattle.conjunctive_compose.specs.System.{SystemParts, IsSystem, edge_at, edge_count, side_on, structure_at}
-use Rattle.conjunctive_compose.specs.Whole.{WholeParts, IsProper, HasPair, start_of}
+use Rattle.conjunctive_compose.specs.Whole.{WholeParts, IsProper, HasPair, start_of, start_state}
 use Rattle.conjunctive_compose.specs.Firing.{Moves, fired}
 use Rattle.conjunctive_compose.specs.Run.{IsRun, Reaches, after}
 use Rattle.conjunctive_compose.specs.Projection.{IsProjection, IsPairPath, Begins}
@@ -51,12 +51,12 @@ pub run_grows : (sys : SystemParts) (w : WholeParts) (run : List Wish) (wish : W
 run_grows sys w [] wish is moves = (moves, tt)
 run_grows sys w (x ∷ run) wish is moves = (is.0, run_grows sys (fired sys w x) run wish is.1 moves)
 
-pub projects_to_path : (sys : SystemParts) (wishes : List Wish) (e : ℕ) → IsSystem sys → IsRun sys (start_of sys) wishes → e < edge_count sys → ProjectsToPath sys (start_of sys) wishes e 0
+pub projects_to_path : (sys : SystemParts) (wishes : List Wish) (e : ℕ) → IsSystem sys → IsRun sys (start_of sys) wishes → e < edge_count sys → ProjectsToPath sys (start_of sys) wishes e (start_state sys e)
 projects_to_path sys wishes e system run lt =
     let start = start_is_proper sys system in
     record {
       some = projection_made sys (start_of sys) e wishes system start.proper run lt;
-      path = λ moves is. projection_path sys (start_of sys) e 0 wishes moves system start.proper run lt (start.pairs e lt) is;
+      path = λ moves is. projection_path sys (start_of sys) e (start_state sys e) wishes moves system start.proper run lt (start.pairs e lt) is;
     }
 
 pub reachable_is_proper : (sys : SystemParts) (w : WholeParts) → IsSystem sys → Reaches sys w → IsProper sys w

@@ -1,7 +1,8 @@
 -- Whole states.
-use Rattle.std.specs.Prelude.{ℕ, ◌≡◌, ◌<◌, List, length, map, replicate, slice_index}
-use Rattle.std.specs.List.{range_with_len}
+use Rattle.std.specs.Prelude.{ℕ, ◌≡◌, ◌<◌, ◌+◌, ◌*◌, ◌==◌, List, length, map, replicate, slice_index}
+use Rattle.std.specs.List.{position_or_len, range_with_len}
 use Rattle.pair_structure.specs.Ordinal.{IsStateAt}
+use Rattle.interconnection.specs.Network.{process_at}
 use Rattle.conjunctive_compose.specs.System.{SystemParts, edge_at, edge_count, process_count, role_of, structure_at}
 
 -- a local state for each process, and a shared value for each edge
@@ -23,10 +24,6 @@ label_on sys w e = (local_at w (edge_at sys e).a, local_at w (edge_at sys e).b)
 abbrev pub HasPair : SystemParts → WholeParts → ℕ → ℕ → Type 0
 HasPair sys w e s = IsStateAt (structure_at sys e).states (label_on sys w e) (value_at w e) s
 
--- the pair state in which an edge starts
-abbrev pub start_state : SystemParts → ℕ → ℕ
-start_state sys e = 0
-
 -- as many local states and values as the system has processes and edges
 pub record HasSizes (sys : SystemParts) (w : WholeParts) : Type 0 where
   pub locals : length w.locals ≡ process_count sys
@@ -39,10 +36,24 @@ pub record IsProper (sys : SystemParts) (w : WholeParts) : Type 0 where
   pub within : (k : ℕ) → k < process_count sys → local_at w k < length (role_of sys k).locals
   pub pairs : (e : ℕ) → e < edge_count sys → (s : ℕ) × HasPair sys w e s
 
+-- the local state where a process starts
 abbrev pub start_local : SystemParts → ℕ → ℕ
-start_local sys k = (role_of sys k).start
+start_local sys k = (process_at sys.network.processes k).start
 
--- each process where its role starts, and the value 0 on each edge
+-- the place of a start among the starts of a role
+abbrev pub place_among : List ℕ → ℕ → ℕ
+place_among starts start = position_or_len (λ other. other == start) starts
+
+-- the place of a process's start
+abbrev pub start_place : SystemParts → ℕ → ℕ
+start_place sys k = place_among (role_of sys k).starts (start_local sys k)
+
+-- the pair state in which an edge starts: where the role on side b has n starts, it is i n + j for places i and j of the starts of its two
+-- processes
+abbrev pub start_state : SystemParts → ℕ → ℕ
+start_state sys e = start_place sys (edge_at sys e).a * length (role_of sys (edge_at sys e).b).starts + start_place sys (edge_at sys e).b
+
+-- each process in its own start, and the value 0 on each edge
 abbrev pub start_of : SystemParts → WholeParts
 start_of sys = record {
   locals = map (start_local sys) (range_with_len 0 (process_count sys));

@@ -71,7 +71,7 @@ impl System {
         &self.structures[kind as usize]
     }
 
-    /// The whole state in which each process is where its role starts and each value is 0. Linear in processes and edges.
+    /// The whole state in which each process is in its own start and each value is 0. Linear in processes and edges.
     pub fn start(&self, alloc: Global) -> Result<Whole, Memory>
         ensures start { IfOk result (λ w. w ≡ start_of self.now) }
         ensures proper { IfOk result (IsProper self.now) }
@@ -87,7 +87,7 @@ impl System {
         let count = self.network.processes().len();
         let mut locals = Vec::with_capacity(alloc, count)?;
         for k in 0..count {
-            locals.push(self.role(k as u32).start())?;
+            locals.push(self.start_local(k as u32))?;
         }
         Ok(locals)
     }
@@ -120,6 +120,13 @@ impl System {
     {
         let number = self.network.processes()[process as usize].role;
         &self.network.roles()[number as usize]
+    }
+
+    fn start_local(&self, process: u32) -> u8
+        requires { process < process_count self.now }
+        ensures { result ≡ start_local self.now process }
+    {
+        self.network.processes()[process as usize].start
     }
 
     pub(crate) fn arc(&self, process: u32, arc: u32) -> LocalArc

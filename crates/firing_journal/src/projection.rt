@@ -1,6 +1,6 @@
 ghost use Rattle.std.specs.Prelude.{◌≡◌, ◌<◌, [], IfOk, option_to_list};
 ghost use Rattle.conjunctive_compose.specs.System.{edge_at, edge_count, side_on, structure_at};
-ghost use Rattle.conjunctive_compose.specs.Whole.{IsProper, start_of};
+ghost use Rattle.conjunctive_compose.specs.Whole.{IsProper, start_of, start_state};
 ghost use Rattle.conjunctive_compose.specs.Run.{IsRun};
 ghost use Rattle.conjunctive_compose.specs.Projection.{Begins, IsPairPath, IsProjection};
 ghost use Rattle.firing_journal.specs.Journal.{wishes_of};
@@ -21,7 +21,7 @@ pub fn project(
     requires run { IsRun system.now (start_of system.now) (wishes_of j.now) }
     requires edge { edge < edge_count system.now }
     ensures projection { IfOk result (λ moves. IsProjection system.now (start_of system.now) edge (wishes_of j.now) moves.items) }
-    ensures path { IfOk result (λ moves. IsPairPath (structure_at system.now edge) 0 moves.items) }
+    ensures path { IfOk result (λ moves. IsPairPath (structure_at system.now edge) (start_state system.now edge) moves.items) }
 {
     let _network = system.network();
     let moves = project_all(alloc, system, j.entries(), edge)?;

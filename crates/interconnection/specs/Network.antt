@@ -1,5 +1,6 @@
 -- Networks: roles, kinds of pairs, processes and edges, and what makes them one.
-use Rattle.std.specs.Prelude.{ℕ, ◌≡◌, ◌≢◌, ◌<◌, ◌≤◌, List, [], length, All, AllPairs, slice_index_or}
+use Rattle.std.specs.Prelude.{ℕ, ◌≡◌, ◌≢◌, ◌<◌, ◌≤◌, List, [], length, All, AllPairs, Contains, slice_index_or}
+use Rattle.pair_structure.specs.Parts.{role_at}
 use Rattle.pair_structure.specs.Role.{RoleParts}
 use Rattle.interconnection.specs.declared.limits.TheConstants.{MAX_KINDS, MAX_NEIGHBOURS, MAX_PROCESSES, MAX_ROLES}
 use Rattle.interconnection.specs.declared.parts.Edge.{Edge}
@@ -13,9 +14,13 @@ pub record NetworkParts : Type 0 where
   pub processes : List Process
   pub edges : List Edge
 
+-- a process of a list by its number; past the end one of no matter
+abbrev pub process_at : List Process → ℕ → Process
+process_at processes k = slice_index_or processes k (record { name = []; role = 0; start = 0 })
+
 -- the number of a process's role
 abbrev pub role_of : List Process → ℕ → ℕ
-role_of processes k = (slice_index_or processes k (record { name = []; role = 0 })).role
+role_of processes k = (process_at processes k).role
 
 -- the numbers of the two roles of a kind
 abbrev pub ends_of : List (ℕ × ℕ) → ℕ → ℕ × ℕ
@@ -27,6 +32,10 @@ AreRoles roles pair = (pair.0 < length roles) × (pair.1 < length roles)
 
 abbrev pub HasRole : List RoleParts → Process → Type 0
 HasRole roles process = process.role < length roles
+
+-- the process starts in one of its role's starts
+abbrev pub BeginsInStart : List RoleParts → Process → Type 0
+BeginsInStart roles process = Contains (role_at roles process.role).starts process.start
 
 -- the edge's two processes and its kind are there
 abbrev pub IsInRange : List (ℕ × ℕ) → List Process → Edge → Type 0
@@ -46,6 +55,7 @@ pub record AreLawful (roles : List RoleParts) (ends : List (ℕ × ℕ)) (proces
   pub few_processes : length processes ≤ MAX_PROCESSES
   pub kinds : All (AreRoles roles) ends
   pub own_roles : All (HasRole roles) processes
+  pub own_starts : All (BeginsInStart roles) processes
   pub in_range : All (IsInRange ends processes) edges
   pub joins_two : All JoinsTwo edges
   pub single : AllPairs (λ x y. JoinSame x y → ⊥) edges

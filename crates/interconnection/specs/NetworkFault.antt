@@ -3,12 +3,12 @@ use Rattle.std.specs.Prelude.{ℕ, ◌≡◌, ◌<◌, ◌≤◌, ◌⊎◌, Lis
 use Rattle.pair_structure.specs.First.{IsFirst}
 use Rattle.pair_structure.specs.Role.{RoleParts}
 use Rattle.interconnection.specs.declared.fault.NetworkFault.{NetworkFault}
-use Rattle.interconnection.specs.declared.fault.NetworkFault.TheVariants.{TooMany, EndRange, ProcessRole, EdgeRange, SelfEdge, EdgeTwice, RoleMismatch, DegreeOver, Memory}
+use Rattle.interconnection.specs.declared.fault.NetworkFault.TheVariants.{TooMany, EndRange, ProcessRole, ProcessStart, EdgeRange, SelfEdge, EdgeTwice, RoleMismatch, DegreeOver, Memory}
 use Rattle.interconnection.specs.declared.limits.TheConstants.{MAX_KINDS, MAX_NEIGHBOURS, MAX_PROCESSES, MAX_ROLES}
 use Rattle.interconnection.specs.declared.parts.Edge.{Edge}
 use Rattle.interconnection.specs.declared.parts.Process.{Process}
 use Rattle.interconnection.specs.Graph.{JoinSame, degree_of, edge_at}
-use Rattle.interconnection.specs.Network.{AreRoles, HasRoles, IsInRange, ends_of, role_of}
+use Rattle.interconnection.specs.Network.{AreRoles, BeginsInStart, HasRoles, IsInRange, ends_of, process_at, role_of}
 
 -- some part has more than its limit, and this is the limit
 abbrev pub IsPassed : ℕ → ℕ → ℕ → ℕ → Type 0
@@ -23,6 +23,7 @@ abbrev pub Stands : List RoleParts → List (ℕ × ℕ) → List Process → Li
 Stands roles ends processes edges (TooMany limit) = IsPassed (length roles) (length ends) (length processes) limit
 Stands roles ends processes edges (EndRange kind) = (kind < length ends) × (AreRoles roles (ends_of ends kind) → ⊥)
 Stands roles ends processes edges (ProcessRole process) = (process < length processes) × (length roles ≤ role_of processes process)
+Stands roles ends processes edges (ProcessStart process) = (process < length processes) × (BeginsInStart roles (process_at processes process) → ⊥)
 Stands roles ends processes edges (EdgeRange edge) = (edge < length edges) × (IsInRange ends processes (edge_at edges edge) → ⊥)
 Stands roles ends processes edges (SelfEdge edge) = (edge < length edges) × ((edge_at edges edge).a ≡ (edge_at edges edge).b)
 Stands roles ends processes edges (EdgeTwice edge) = (edge < length edges) × HasEarlier edges edge
@@ -35,18 +36,20 @@ abbrev pub kind_of : NetworkFault → ℕ
 kind_of (TooMany limit) = 1
 kind_of (EndRange kind) = 2
 kind_of (ProcessRole process) = 3
-kind_of (EdgeRange edge) = 4
-kind_of (SelfEdge edge) = 5
-kind_of (EdgeTwice edge) = 6
-kind_of (RoleMismatch edge) = 7
-kind_of (DegreeOver process) = 8
-kind_of Memory = 9
+kind_of (ProcessStart process) = 4
+kind_of (EdgeRange edge) = 5
+kind_of (SelfEdge edge) = 6
+kind_of (EdgeTwice edge) = 7
+kind_of (RoleMismatch edge) = 8
+kind_of (DegreeOver process) = 9
+kind_of Memory = 10
 
 -- of one kind the lowest number is the first
 abbrev pub place_of : NetworkFault → ℕ
 place_of (TooMany limit) = limit
 place_of (EndRange kind) = kind
 place_of (ProcessRole process) = process
+place_of (ProcessStart process) = process
 place_of (EdgeRange edge) = edge
 place_of (SelfEdge edge) = edge
 place_of (EdgeTwice edge) = edge

@@ -35,6 +35,7 @@ pub(crate) fn process_copies(alloc: Global, processes: &[Process]) -> Result<Vec
         copies.push(Process {
             name,
             role: process.role,
+            start: process.start,
         })?;
     }
     Ok(copies)

@@ -14,6 +14,9 @@ pub enum NetworkFault {
     /// The role of the process is none.
     #[error("the role of process {process} is none")]
     ProcessRole { process: u32 },
+    /// The start of the process is none of its role's starts.
+    #[error("process {process} starts in none of the role's starts")]
+    ProcessStart { process: u32 },
     /// An end of the edge is no process, or its kind is none.
     #[error("edge {edge} names no process or no kind")]
     EdgeRange { edge: u32 },

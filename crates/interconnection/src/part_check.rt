@@ -1,7 +1,7 @@
-ghost use Rattle.std.specs.Prelude.{◌<◌, length, List, MatchOption};
+ghost use Rattle.std.specs.Prelude.{◌<◌, ◌↔◌, ℕ, length, IsTrue, List, MatchOption};
 ghost use Rattle.pair_structure.specs.inside.FirstFailing.{IsFirstFailing};
 ghost use Rattle.interconnection.specs.declared.parts.Edge.{Edge};
-ghost use Rattle.interconnection.specs.Network.{ends_of, role_of};
+ghost use Rattle.interconnection.specs.Network.{BeginsInStart, HasRole, ends_of, process_at, role_of};
 ghost use Rattle.interconnection.specs.inside.NetworkCheck.{AreFew, AreParts, IsFirstPassed};
 ghost use Rattle.interconnection.specs.NetworkFault.{IsFirstNetworkFault};
 
@@ -25,6 +25,9 @@ pub(crate) fn part_fault(
     }
     if let Some(k) = first_role_outside(roles.len(), processes) {
         return Some(NetworkFault::ProcessRole { process: k as u32 });
+    }
+    if let Some(k) = first_start_outside(roles, processes) {
+        return Some(NetworkFault::ProcessStart { process: k as u32 });
     }
     None
 }
@@ -64,4 +67,25 @@ fn first_role_outside(roles: usize, processes: &[Process]) -> Option<usize>
         }
     }
     None
+}
+
+fn first_start_outside(roles: &[Role], processes: &[Process]) -> Option<usize>
+    requires { (k : ℕ) → k < length processes.now → role_of processes.now k < length roles.now }
+    ensures { IsFirstFailing (λ k. BeginsInStart roles.now (process_at processes.now k)) (length processes.now) result }
+{
+    for (k, process) in processes.iter().enumerate() {
+        if !begins_in_start(roles, process) {
+            return Some(k);
+        }
+    }
+    None
+}
+
+fn begins_in_start(roles: &[Role], process: &Process) -> bool
+    requires { HasRole roles.now process.now }
+    ensures { IsTrue result ↔ BeginsInStart roles.now process.now }
+{
+    roles[process.role as usize]
+        .starts()
+        .contains(&process.start)
 }

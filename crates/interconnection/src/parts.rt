@@ -1,10 +1,11 @@
 use pair_structure::{Name, Side};
 
-/// A process: its name, and the number of its role.
+/// A process: its name, the number of its role, and the local state where it starts, which is one of the role's starts.
 #[derive(Debug, Drop)]
 pub struct Process {
     pub name: Name,
     pub role: u8,
+    pub start: u8,
 }
 
 /// Two processes that share a value, in the way of a kind: the process on side a, that on side b, and the kind, by their numbers.

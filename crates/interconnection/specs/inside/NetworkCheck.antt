@@ -7,7 +7,7 @@ use Rattle.interconnection.specs.declared.limits.TheConstants.{MAX_KINDS, MAX_NE
 use Rattle.interconnection.specs.declared.parts.Edge.{Edge}
 use Rattle.interconnection.specs.declared.parts.Process.{Process}
 use Rattle.interconnection.specs.Graph.{degree_of, edge_at}
-use Rattle.interconnection.specs.Network.{AreRoles, HasRoles, IsInRange, JoinsTwo, ends_of, role_of}
+use Rattle.interconnection.specs.Network.{AreRoles, BeginsInStart, HasRoles, IsInRange, JoinsTwo, ends_of, process_at, role_of}
 use Rattle.interconnection.specs.NetworkFault.{HasEarlier, IsPassed}
 
 -- so many roles, kinds and processes are within their limits
@@ -26,6 +26,7 @@ pub record AreParts (roles : List RoleParts) (ends : List (ℕ × ℕ)) (process
   pub few : AreFew (length roles) (length ends) (length processes)
   pub kinds : (kind : ℕ) → kind < length ends → AreRoles roles (ends_of ends kind)
   pub own_roles : (k : ℕ) → k < length processes → role_of processes k < length roles
+  pub own_starts : (k : ℕ) → k < length processes → BeginsInStart roles (process_at processes k)
 
 -- what is checked of each edge alone, before the processes of any two are compared
 pub record AreEdges (ends : List (ℕ × ℕ)) (processes : List Process) (edges : List Edge) : Type 0 where

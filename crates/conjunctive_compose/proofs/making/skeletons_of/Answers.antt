@@ -1,7 +1,11 @@
 use Rattle.std.proofs.Common.{◌+◌, sym, subst}
 use Rattle.conjunctive_compose.specs.System.{HasCommandsBelow}
-use Rattle.conjunctive_compose.proofs.Commands.{commands_more}
+use Rattle.conjunctive_compose.proofs.Commands.{commands_more, structure_over}
 use Rattle.conjunctive_compose.proofs.making.skeletons_of.Goals as goal
+
+pub skeleton_of-requires-clause-over : goal.skeleton_of-requires-clause-over
+skeleton_of-requires-clause-over c =
+    structure_over c.args.network.now c.args.structures.now c.loop-kind.kind c.index-structures-kind.result c.requires c.loop-kind-test.true c.index-structures-kind.is
 
 pub loop-kind-preserved : goal.loop-kind-preserved
 loop-kind-preserved c =

@@ -9,4 +9,4 @@ returns-clause-number c =
     subst (λ (processes : List Process). c.copied.result ≡ position (λ p. bytes_eq p.name c.args.name.now) processes) c.self.view_is (c.copied.ensures ∙ c.get.ensures.value ∙ c.self.invariant c.args.name.now)
 
 pub returns-clause-within : goal.returns-clause-within
-returns-clause-within c = number_within (λ (p : Process). bytes_eq p.name c.args.name.now) c.args.self.now (record { name = []; role = 0 }) c.copied.result (returns-clause-number c)
+returns-clause-within c = number_within (λ (p : Process). bytes_eq p.name c.args.name.now) c.args.self.now (record { name = []; role = 0; start = 0 }) c.copied.result (returns-clause-number c)
