@@ -51,7 +51,7 @@ def is_calm(spec, solution, star, state):
 
 def whole_start(spec):
     """The whole state at the start: local states, and values."""
-    return tuple(spec.roles[role].start for role in spec.processes.values()), (0,) * len(spec.edges)
+    return tuple(map(spec.start_of, spec.processes)), (0,) * len(spec.edges)
 
 
 def firings(spec, solution, whole, process):
@@ -92,6 +92,15 @@ def missing_shape(spec, stars):
     return None
 
 
+def star_starts(spec, solution, labels):
+    """The star states in which each leaf has pair state 0, or that in which some edge of its kind begins."""
+    begun = {kind: {0} for kind in spec.kinds}
+    for edge, (_, _, kind) in enumerate(spec.edges):
+        begun[kind].add(spec.start_state(edge))
+    return {state for state in product(*(begun[kind] for kind, _ in labels))
+            if len({solution[kind].local(s, side) for (kind, side), s in zip(labels, state)}) == 1}
+
+
 def first_step(spec, solution, stars, is_bad):
     """The first member with its first step that is bad, as (star, member, step)."""
     for number, star in enumerate(stars):
@@ -111,7 +120,7 @@ def verdict(spec, solution, text):
     if process := missing_shape(spec, stars):
         return f"shape-missing {process}"
     for number, (_, labels, members) in enumerate(stars):
-        if (0,) * len(labels) not in members:
+        if not set(members) >= star_starts(spec, solution, labels):
             return f"start-missing {number}"
     if at := first_step(spec, solution, stars, lambda star, members, _, reached: reached not in members):
         return f"not-closed {at}"

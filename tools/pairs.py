@@ -14,10 +14,10 @@ OTHER = {"a": "b", "b": "a"}
 
 @dataclass
 class Role:
-    """Local states in their order, the start, and the arcs as (from, to, free)."""
+    """Local states and starts in their order, and the arcs as (from, to, free)."""
     name: str
     locals: list = field(default_factory=list)
-    start: str = ""
+    starts: list = field(default_factory=list)
     arcs: list = field(default_factory=list)
 
     def leaving(self, local):
@@ -35,15 +35,31 @@ class Kind:
 
 @dataclass
 class Spec:
-    """Roles and kinds by name; processes as a role by name; edges as (process a, process b, kind)."""
+    """Roles and kinds by name; processes as a role by name; of those that a text lets begin in a start that it names,
+    that start; edges as (process a, process b, kind)."""
     roles: dict = field(default_factory=dict)
     kinds: dict = field(default_factory=dict)
     processes: dict = field(default_factory=dict)
+    begins: dict = field(default_factory=dict)
     edges: list = field(default_factory=list)
 
     def role_of(self, kind, side):
         """The role of a side of a kind."""
         return self.roles[self.kinds[kind].roles[side]]
+
+    def start_of(self, process):
+        """The local state where a process begins."""
+        return self.begins.get(process) or self.roles[self.processes[process]].starts[0]
+
+    def start_count(self, kind):
+        """The number of start states of a kind; they are its first."""
+        return len(self.role_of(kind, "a").starts) * len(self.role_of(kind, "b").starts)
+
+    def start_state(self, edge):
+        """The pair state of an edge, by its number, in the start."""
+        p, q, kind = self.edges[edge]
+        a, b = (self.role_of(kind, side).starts for side in "ab")
+        return a.index(self.start_of(p)) * len(b) + b.index(self.start_of(q))
 
     def near(self, process):
         """The edges of a process, as (number, kind, the process's side, neighbour), in their order."""
@@ -105,7 +121,7 @@ def read_spec(path):
         elif head == "local":
             role.locals.append(rest[0])
         elif head == "start":
-            role.start = rest[0]
+            role.starts.append(rest[0])
         elif head == "arc":
             role.arcs.append((rest[0], rest[1], len(rest) > 2))
         elif head == "kind":
@@ -114,6 +130,7 @@ def read_spec(path):
             kind.clauses.append(" ".join(rest))
         elif head == "process":
             spec.processes[rest[0]] = rest[1]
+            spec.begins.update({rest[0]: rest[2]} if len(rest) > 2 else {})
         elif head == "edge":
             spec.edges.append(tuple(rest))
         elif head not in ("pairs", "end", "done"):
@@ -125,12 +142,15 @@ def spec_text(spec):
     """The text of a specification."""
     lines = ["pairs 1"]
     for role in spec.roles.values():
-        lines += [f"role {role.name}", *(f"local {local}" for local in role.locals), f"start {role.start}"]
+        lines += [f"role {role.name}", *(f"local {local}" for local in role.locals)]
+        lines += [f"start {local}" for local in role.starts]
         lines += [f"arc {p} {q}{' free' if free else ''}" for p, q, free in role.arcs] + ["end"]
     for kind in spec.kinds.values():
         lines += [f"kind {kind.name} {kind.roles['a']} {kind.roles['b']}"]
         lines += [f"require {clause}" for clause in kind.clauses] + ["end"]
-    lines += [f"process {name} {role}" for name, role in spec.processes.items()]
+    for name, role in spec.processes.items():
+        start = spec.start_of(name)
+        lines.append(f"process {name} {role}" + (f" {start}" if start != spec.roles[role].starts[0] else ""))
     lines += ["edge " + " ".join(edge) for edge in spec.edges] + ["done"]
     return "\n".join(lines) + "\n"
 

@@ -1,4 +1,5 @@
-"""Stars: a process, the centre, with some of its neighbours, the leaves; the pair states that they have together."""
+"""Stars: a process, the centre, with some of its neighbours, the leaves; the pair states that they have together. A
+star begins where each leaf has pair state 0, or that in which some edge of its kind begins."""
 from collections import Counter
 from itertools import combinations, product
 
@@ -45,7 +46,10 @@ class Star:
     def __init__(self, spec, solution, shape):
         self.role, self.leaves = shape[0], [Leaf(spec, solution, label) for label in shape[1]]
         self.head = " ".join(["star", self.role, *(leaf.name for leaf in self.leaves)])
-        self.start = (0,) * len(self.leaves)
+        begun = [{0} | {spec.start_state(e) for e, edge in enumerate(spec.edges) if edge[2] == leaf.kind}
+                 for leaf in self.leaves]
+        self.starts = [state for state in product(*map(sorted, begun))
+                       if len({leaf.structure.local(s, leaf.side) for leaf, s in zip(self.leaves, state)}) == 1]
 
     def centre_steps(self, state):
         """The star states that a step of the centre reaches, each with the arc."""

@@ -227,6 +227,42 @@ class Certificates(unittest.TestCase):
         self.assertEqual(verdict(spec, read_solution(SOLVED["handshake"][1]), "certificate 1\ndone\n"), "no-peel")
 
 
+class Starts(unittest.TestCase):
+    """Lamps that may start off or on, and one process of them that begins switched on."""
+    LINES = ["pairs 1", "role lamp", "local L", "local R", "start L", "start R", "arc L R", "arc R L", "end",
+             "kind turns lamp lamp", "end", "process p0 lamp", "process p1 lamp R", "process p2 lamp",
+             "edge p0 p1 turns", "edge p1 p2 turns", "done", ""]
+    TURNS = ["solution 1", "kind turns", "state L L", "state L R", "state R L", "state R R", "move 0 b 1", "move 1 a 3",
+             "move 2 a 0", "move 3 b 2", "end", "done", ""]
+
+    def setUp(self):
+        self.pair = in_room("starts.pairs", "\n".join(self.LINES)), in_room("starts.solution", "\n".join(self.TURNS))
+        self.spec, self.solution = read_spec(self.pair[0]), read_solution(self.pair[1])
+
+    def test_read_back(self):
+        self.assertEqual(spec_text(self.spec), read_text(self.pair[0]))
+        self.assertEqual(call("prove", read_text(self.pair[0]), read_text(self.pair[1])), (0, "solves\n"))
+        self.assertEqual([self.spec.start_state(edge) for edge in range(2)], [1, 2])
+
+    def test_begins(self):
+        self.assertIn("process p1 is a lamp, from R on", tool("guarded", *self.pair))
+        self.assertIn("byte at_p1 = lamp_R;", tool("promela", *self.pair))
+        states, _ = whole_states(self.spec, self.solution)
+        self.assertEqual(states[0], (("L", "R", "L"), (0, 0)))
+
+    def test_certificate(self):
+        text = tool("certificate", *self.pair)
+        self.assertEqual(verdict(self.spec, self.solution, text), "accepted")
+        second = text.index("star lamp turns.a turns.b")
+        startless = text[:second] + text[second:].replace("member 1 2\n", "", 1)
+        self.assertEqual(verdict(self.spec, self.solution, startless), "start-missing 1")
+
+    def test_why(self):
+        self.spec.kinds["turns"].clauses = ["a.L"]
+        path = in_room("clauses.pairs", spec_text(self.spec))
+        self.assertIn("it fails at the start, state 2 (R L)", tool("why", path, self.pair[1]))
+
+
 class Mended(unittest.TestCase):
     def test_accepted(self):
         for name in ("drinkers", "grid", "allocator", "lights"):

@@ -1,22 +1,22 @@
 -- What stands against a line by kinds of lines, as the code judges it, is what stands against it by causes.
-use Rattle.std.proofs.Common.{ℕ, ◌≡◌, ◌<◌, inl, inr, Bool, List, Contains, refl, sym, ap, subst, arith}
+use Rattle.std.proofs.Common.{ℕ, ◌≡◌, ◌<◌, inl, inr, Bool, Option, List, Contains, refl, sym, ap, subst, arith}
 use Rattle.pair_structure.specs.declared.limits.TheConstants.{MAX_ARCS, MAX_LOCALS}
 use Rattle.interconnection.specs.declared.limits.TheConstants.{MAX_KINDS, MAX_PROCESSES, MAX_ROLES}
 use Rattle.pair_structure.specs.Role.{RoleParts}
 use Rattle.text_cause.specs.declared.cause.TextCause.{TextCause}
-use Rattle.text_cause.specs.declared.cause.TextCause.TheVariants.{UnknownName, Twice, SelfArc, NoArc, TooMany, ClosureOver, SelfEdge, EdgeTwice, DegreeOver, RoleMismatch}
+use Rattle.text_cause.specs.declared.cause.TextCause.TheVariants.{UnknownName, Twice, SelfArc, NoArc, TooMany, ClosureOver, SelfEdge, EdgeTwice, DegreeOver, RoleMismatch, NotAStart}
 use Rattle.ctl_text.specs.Item.{Said, role_line, local_line, start_line, arc_line, kind_line, require_line, end_line, process_line, edge_line}
-use Rattle.ctl_text.specs.Value.{SpecParts, kind_names, process_names}
-use Rattle.ctl_text.specs.State.{Group, in_locals, in_arcs, in_kind, State}
+use Rattle.ctl_text.specs.Value.{SpecParts, role_names, kind_names, process_names}
+use Rattle.ctl_text.specs.State.{Group, in_role, in_kind, State}
 use Rattle.text_cause.specs.Cause.{cause_no, IsLowest, IsFree}
-use Rattle.ctl_text.specs.Cause.{UsesUnknown, DeclaresAgain, JoinsItself, LeavesStuck, GoesOver, HasLargeClosure, AreDeclared, IsLoop, JoinsAgain, Crowds, HasOtherRoles, Blocks}
+use Rattle.ctl_text.specs.Cause.{UsesUnknown, DeclaresAgain, JoinsItself, LeavesStuck, GoesOver, HasLargeClosure, AreDeclared, IsLoop, JoinsAgain, Crowds, HasOtherRoles, BeginsElsewhere, Blocks}
 use Rattle.ctl_text.specs.inside.LineCause.{LineBlocks}
 use Rattle.ctl_text.proofs.Named.{contained}
 
 abbrev At : SpecParts → Group → State
 At v g = record { parts = v; group = g }
 
--- each cause's place among the ten
+-- each cause's place among the eleven
 unknown_blocks : (s : State) (x : Said) (cause : TextCause) → cause ≡ UnknownName → UsesUnknown x s.parts s.group → Blocks s x cause
 unknown_blocks s x cause is h = inl (is, h)
 
@@ -45,17 +45,21 @@ crowd_blocks : (s : State) (x : Said) (cause : TextCause) (k : ℕ) → cause �
 crowd_blocks s x cause k is h = inr (inr (inr (inr (inr (inr (inr (inr (inl (k, is, h)))))))))
 
 roles_blocks : (s : State) (x : Said) (cause : TextCause) → cause ≡ RoleMismatch → HasOtherRoles x s.parts → Blocks s x cause
-roles_blocks s x cause is h = inr (inr (inr (inr (inr (inr (inr (inr (inr (is, h)))))))))
+roles_blocks s x cause is h = inr (inr (inr (inr (inr (inr (inr (inr (inr (inl (is, h))))))))))
+
+begins_blocks : (s : State) (x : Said) (cause : TextCause) → cause ≡ NotAStart → BeginsElsewhere x s.parts → Blocks s x cause
+begins_blocks s x cause is h = inr (inr (inr (inr (inr (inr (inr (inr (inr (inr (is, h))))))))))
 
 -- where a cause stands, it stands against that kind of line
 unknown_line : (x : Said) (v : SpecParts) (g : Group) → UsesUnknown x v g → LineBlocks (At v g) x UnknownName
-unknown_line (start_line n) v (in_locals name names) h = (refl, h)
-unknown_line (arc_line p q free) v (in_arcs r) (inl h) = inl (refl, h)
-unknown_line (arc_line p q free) v (in_arcs r) (inr h) = inr (inl (refl, h))
+unknown_line (start_line n) v (in_role r) h = inl (refl, h)
+unknown_line (arc_line p q free) v (in_role r) (inl h) = inl (refl, h)
+unknown_line (arc_line p q free) v (in_role r) (inr h) = inr (inl (refl, h))
 unknown_line (kind_line name a b) v g (inl h) = inl (refl, h)
 unknown_line (kind_line name a b) v g (inr h) = inr (inl (refl, h))
 unknown_line (require_line words form) v (in_kind k) h = (refl, h)
-unknown_line (process_line name r) v g h = inl (refl, h)
+unknown_line (process_line name r start) v g (inl h) = inl (refl, h)
+unknown_line (process_line name r start) v g (inr h) = inr (inl (refl, h))
 unknown_line (edge_line p q kind) v g (inl h) = inl (refl, h)
 unknown_line (edge_line p q kind) v g (inr (inl h)) = inr (inl (refl, h))
 unknown_line (edge_line p q kind) v g (inr (inr h)) = inr (inr (inl (refl, h)))
@@ -63,26 +67,27 @@ unknown_line x v g h = absurd h
 
 again_line : (x : Said) (v : SpecParts) (g : Group) → DeclaresAgain x v g → LineBlocks (At v g) x Twice
 again_line (role_line name) v g h = inl (refl, h)
-again_line (local_line n) v (in_locals name names) h = inl (refl, h)
-again_line (arc_line p q free) v (in_arcs r) h = inr (inr (inl (refl, h.2)))
+again_line (local_line n) v (in_role r) h = inl (refl, h)
+again_line (start_line n) v (in_role r) h = inr (refl, h.1)
+again_line (arc_line p q free) v (in_role r) h = inr (inr (inl (refl, h.2)))
 again_line (kind_line name a b) v g h = inr (inr (inl (refl, h)))
-again_line (process_line name r) v g h = inr (inl (refl, h))
+again_line (process_line name r start) v g h = inr (inr (inl (inl (refl, h))))
 again_line x v g h = absurd h
 
 self_line : (x : Said) (v : SpecParts) (g : Group) → JoinsItself x g → LineBlocks (At v g) x SelfArc
-self_line (arc_line p q free) v (in_arcs r) h = inr (inr (inr (inl (refl, h.1))))
+self_line (arc_line p q free) v (in_role r) h = inr (inr (inr (inl (refl, h.1))))
 self_line x v g h = absurd h
 
 stuck_line : (x : Said) (v : SpecParts) (g : Group) (p : ℕ) → LeavesStuck x g p → LineBlocks (At v g) x (NoArc p)
-stuck_line end_line v (in_arcs r) p h = (p, refl, h)
+stuck_line end_line v (in_role r) p h = (p, refl, h)
 stuck_line x v g p h = absurd h
 
 over_line : (x : Said) (v : SpecParts) (g : Group) (limit : ℕ) → GoesOver x v g limit → LineBlocks (At v g) x (TooMany limit)
 over_line (role_line name) v g limit h = inr (ap (λ n. TooMany n) h.0, h.1)
-over_line (local_line n) v (in_locals name names) limit h = inr (ap (λ n. TooMany n) h.0, h.1)
-over_line (arc_line p q free) v (in_arcs r) limit h = inr (inr (inr (inr (ap (λ n. TooMany n) h.0, h.1))))
+over_line (local_line n) v (in_role r) limit h = inr (ap (λ n. TooMany n) h.0, h.1)
+over_line (arc_line p q free) v (in_role r) limit h = inr (inr (inr (inr (ap (λ n. TooMany n) h.0, h.1))))
 over_line (kind_line name a b) v g limit h = inr (inr (inr (ap (λ n. TooMany n) h.0, h.1)))
-over_line (process_line name r) v g limit h = inr (inr (ap (λ n. TooMany n) h.0, h.1))
+over_line (process_line name r start) v g limit h = inr (inr (inl (inr (ap (λ n. TooMany n) h.0, h.1))))
 over_line x v g limit h = absurd h
 
 closure_line : (x : Said) (v : SpecParts) (g : Group) → HasLargeClosure x v g → LineBlocks (At v g) x ClosureOver
@@ -105,6 +110,10 @@ roles_line : (x : Said) (v : SpecParts) (g : Group) → HasOtherRoles x v → Li
 roles_line (edge_line p q kind) v g h = inr (inr (inr (inr (inr (inr (refl, h.1))))))
 roles_line x v g h = absurd h
 
+begins_line : (x : Said) (v : SpecParts) (g : Group) → BeginsElsewhere x v → LineBlocks (At v g) x NotAStart
+begins_line (process_line name r start) v g h = inr (inr (inr (refl, h.1)))
+begins_line x v g h = absurd h
+
 along : (s : State) (x : Said) (cause c : TextCause) → cause ≡ c → LineBlocks s x c → LineBlocks s x cause
 along s x cause c is h = subst (λ y. LineBlocks s x y) (sym is) h
 
@@ -118,7 +127,8 @@ line_of_cause s x cause (inr (inr (inr (inr (inr (inl (is, h))))))) = along s x 
 line_of_cause s x cause (inr (inr (inr (inr (inr (inr (inl (is, h)))))))) = along s x cause SelfEdge is (loop_line x s.parts s.group h)
 line_of_cause s x cause (inr (inr (inr (inr (inr (inr (inr (inl (is, h))))))))) = along s x cause EdgeTwice is (joined_line x s.parts s.group h)
 line_of_cause s x cause (inr (inr (inr (inr (inr (inr (inr (inr (inl (k, is, h)))))))))) = along s x cause (DegreeOver k) is (crowd_line x s.parts s.group k h)
-line_of_cause s x cause (inr (inr (inr (inr (inr (inr (inr (inr (inr (is, h)))))))))) = along s x cause RoleMismatch is (roles_line x s.parts s.group h)
+line_of_cause s x cause (inr (inr (inr (inr (inr (inr (inr (inr (inr (inl (is, h))))))))))) = along s x cause RoleMismatch is (roles_line x s.parts s.group h)
+line_of_cause s x cause (inr (inr (inr (inr (inr (inr (inr (inr (inr (inr (is, h))))))))))) = along s x cause NotAStart is (begins_line x s.parts s.group h)
 
 -- behind UnknownName each name that is used is declared
 abbrev KnownBehind : Said → SpecParts → Group → TextCause → Type 0
@@ -127,11 +137,17 @@ KnownBehind x v g cause = 5 < cause_no cause → UsesUnknown x v g → ⊥
 behind : (cause c : TextCause) → cause ≡ c → 5 < cause_no c → 5 < cause_no cause
 behind cause c is lt = subst (λ y. 5 < cause_no y) (sym is) lt
 
-from_there : (v : SpecParts) (r : RoleParts) (p q : List ℕ) (f : Bool) (cause : TextCause) → KnownBehind (arc_line p q f) v (in_arcs r) cause → 5 < cause_no cause → Contains r.locals p
+start_there : (v : SpecParts) (r : RoleParts) (n : List ℕ) (cause : TextCause) → KnownBehind (start_line n) v (in_role r) cause → 5 < cause_no cause → Contains r.locals n
+start_there v r n cause known lt = contained r.locals n (known lt)
+
+from_there : (v : SpecParts) (r : RoleParts) (p q : List ℕ) (f : Bool) (cause : TextCause) → KnownBehind (arc_line p q f) v (in_role r) cause → 5 < cause_no cause → Contains r.locals p
 from_there v r p q f cause known lt = contained r.locals p (λ unknown. known lt (inl unknown))
 
-to_there : (v : SpecParts) (r : RoleParts) (p q : List ℕ) (f : Bool) (cause : TextCause) → KnownBehind (arc_line p q f) v (in_arcs r) cause → 5 < cause_no cause → Contains r.locals q
+to_there : (v : SpecParts) (r : RoleParts) (p q : List ℕ) (f : Bool) (cause : TextCause) → KnownBehind (arc_line p q f) v (in_role r) cause → 5 < cause_no cause → Contains r.locals q
 to_there v r p q f cause known lt = contained r.locals q (λ unknown. known lt (inr unknown))
+
+role_there : (v : SpecParts) (g : Group) (name r : List ℕ) (start : Option (List ℕ)) (cause : TextCause) → KnownBehind (process_line name r start) v g cause → 5 < cause_no cause → Contains (role_names v.roles) r
+role_there v g name r start cause known lt = contained (role_names v.roles) r (λ unknown. known lt (inl unknown))
 
 declared : (v : SpecParts) (g : Group) (p q kind : List ℕ) (cause : TextCause) → KnownBehind (edge_line p q kind) v g cause → 5 < cause_no cause → AreDeclared v p q kind
 declared v g p q kind cause known lt = (
@@ -143,26 +159,31 @@ declared v g p q kind cause known lt = (
 cause_of_line : (x : Said) (v : SpecParts) (g : Group) (cause : TextCause) → KnownBehind x v g cause → LineBlocks (At v g) x cause → Blocks (At v g) x cause
 cause_of_line (role_line name) v g cause known (inl h) = again_blocks (At v g) (role_line name) cause h.0 h.1
 cause_of_line (role_line name) v g cause known (inr h) = over_blocks (At v g) (role_line name) cause MAX_ROLES h.0 (refl, h.1)
-cause_of_line (local_line n) v (in_locals name names) cause known (inl h) = again_blocks (At v (in_locals name names)) (local_line n) cause h.0 h.1
-cause_of_line (local_line n) v (in_locals name names) cause known (inr h) = over_blocks (At v (in_locals name names)) (local_line n) cause MAX_LOCALS h.0 (refl, h.1)
-cause_of_line (start_line n) v (in_locals name names) cause known h = unknown_blocks (At v (in_locals name names)) (start_line n) cause h.0 h.1
-cause_of_line (arc_line p q f) v (in_arcs r) cause known (inl h) = unknown_blocks (At v (in_arcs r)) (arc_line p q f) cause h.0 (inl h.1)
-cause_of_line (arc_line p q f) v (in_arcs r) cause known (inr (inl h)) = unknown_blocks (At v (in_arcs r)) (arc_line p q f) cause h.0 (inr h.1)
-cause_of_line (arc_line p q f) v (in_arcs r) cause known (inr (inr (inl h))) =
-    let lt = behind cause Twice h.0 (omega arith) in again_blocks (At v (in_arcs r)) (arc_line p q f) cause h.0 (from_there v r p q f cause known lt, to_there v r p q f cause known lt, h.1)
-cause_of_line (arc_line p q f) v (in_arcs r) cause known (inr (inr (inr (inl h)))) =
-    let lt = behind cause SelfArc h.0 (omega arith) in self_blocks (At v (in_arcs r)) (arc_line p q f) cause h.0 (from_there v r p q f cause known lt, h.1)
-cause_of_line (arc_line p q f) v (in_arcs r) cause known (inr (inr (inr (inr h)))) = over_blocks (At v (in_arcs r)) (arc_line p q f) cause MAX_ARCS h.0 (refl, h.1)
+cause_of_line (local_line n) v (in_role r) cause known (inl h) = again_blocks (At v (in_role r)) (local_line n) cause h.0 h.1
+cause_of_line (local_line n) v (in_role r) cause known (inr h) = over_blocks (At v (in_role r)) (local_line n) cause MAX_LOCALS h.0 (refl, h.1)
+cause_of_line (start_line n) v (in_role r) cause known (inl h) = unknown_blocks (At v (in_role r)) (start_line n) cause h.0 h.1
+cause_of_line (start_line n) v (in_role r) cause known (inr h) =
+    again_blocks (At v (in_role r)) (start_line n) cause h.0 (start_there v r n cause known (behind cause Twice h.0 (omega arith)), h.1)
+cause_of_line (arc_line p q f) v (in_role r) cause known (inl h) = unknown_blocks (At v (in_role r)) (arc_line p q f) cause h.0 (inl h.1)
+cause_of_line (arc_line p q f) v (in_role r) cause known (inr (inl h)) = unknown_blocks (At v (in_role r)) (arc_line p q f) cause h.0 (inr h.1)
+cause_of_line (arc_line p q f) v (in_role r) cause known (inr (inr (inl h))) =
+    let lt = behind cause Twice h.0 (omega arith) in again_blocks (At v (in_role r)) (arc_line p q f) cause h.0 (from_there v r p q f cause known lt, to_there v r p q f cause known lt, h.1)
+cause_of_line (arc_line p q f) v (in_role r) cause known (inr (inr (inr (inl h)))) =
+    let lt = behind cause SelfArc h.0 (omega arith) in self_blocks (At v (in_role r)) (arc_line p q f) cause h.0 (from_there v r p q f cause known lt, h.1)
+cause_of_line (arc_line p q f) v (in_role r) cause known (inr (inr (inr (inr h)))) = over_blocks (At v (in_role r)) (arc_line p q f) cause MAX_ARCS h.0 (refl, h.1)
 cause_of_line (kind_line name a b) v g cause known (inl h) = unknown_blocks (At v g) (kind_line name a b) cause h.0 (inl h.1)
 cause_of_line (kind_line name a b) v g cause known (inr (inl h)) = unknown_blocks (At v g) (kind_line name a b) cause h.0 (inr h.1)
 cause_of_line (kind_line name a b) v g cause known (inr (inr (inl h))) = again_blocks (At v g) (kind_line name a b) cause h.0 h.1
 cause_of_line (kind_line name a b) v g cause known (inr (inr (inr h))) = over_blocks (At v g) (kind_line name a b) cause MAX_KINDS h.0 (refl, h.1)
 cause_of_line (require_line words form) v (in_kind k) cause known h = unknown_blocks (At v (in_kind k)) (require_line words form) cause h.0 h.1
-cause_of_line end_line v (in_arcs r) cause known h = stuck_blocks (At v (in_arcs r)) end_line cause h.0 h.1 h.2
+cause_of_line end_line v (in_role r) cause known h = stuck_blocks (At v (in_role r)) end_line cause h.0 h.1 h.2
 cause_of_line end_line v (in_kind k) cause known h = closure_blocks (At v (in_kind k)) end_line cause h.0 h.1
-cause_of_line (process_line name r) v g cause known (inl h) = unknown_blocks (At v g) (process_line name r) cause h.0 h.1
-cause_of_line (process_line name r) v g cause known (inr (inl h)) = again_blocks (At v g) (process_line name r) cause h.0 h.1
-cause_of_line (process_line name r) v g cause known (inr (inr h)) = over_blocks (At v g) (process_line name r) cause MAX_PROCESSES h.0 (refl, h.1)
+cause_of_line (process_line name r start) v g cause known (inl h) = unknown_blocks (At v g) (process_line name r start) cause h.0 (inl h.1)
+cause_of_line (process_line name r start) v g cause known (inr (inl h)) = unknown_blocks (At v g) (process_line name r start) cause h.0 (inr h.1)
+cause_of_line (process_line name r start) v g cause known (inr (inr (inl (inl h)))) = again_blocks (At v g) (process_line name r start) cause h.0 h.1
+cause_of_line (process_line name r start) v g cause known (inr (inr (inl (inr h)))) = over_blocks (At v g) (process_line name r start) cause MAX_PROCESSES h.0 (refl, h.1)
+cause_of_line (process_line name r start) v g cause known (inr (inr (inr h))) =
+    begins_blocks (At v g) (process_line name r start) cause h.0 (role_there v g name r start cause known (behind cause NotAStart h.0 (omega arith)), h.1)
 cause_of_line (edge_line p q kind) v g cause known (inl h) = unknown_blocks (At v g) (edge_line p q kind) cause h.0 (inl h.1)
 cause_of_line (edge_line p q kind) v g cause known (inr (inl h)) = unknown_blocks (At v g) (edge_line p q kind) cause h.0 (inr (inl h.1))
 cause_of_line (edge_line p q kind) v g cause known (inr (inr (inl h))) = unknown_blocks (At v g) (edge_line p q kind) cause h.0 (inr (inr h.1))

@@ -1,5 +1,5 @@
 -- The lowest cause against a line, rule by rule.
-use Rattle.std.proofs.Common.{ℕ, ◌≡◌, ◌≤◌, List, length, Contains, refl, ap, arith}
+use Rattle.std.proofs.Common.{ℕ, ◌≡◌, ◌≤◌, Option, List, length, Contains, refl, ap, arith}
 use Rattle.pair_structure.specs.declared.limits.TheConstants.{MAX_ARCS}
 use Rattle.interconnection.specs.declared.limits.TheConstants.{MAX_KINDS, MAX_PROCESSES}
 use Rattle.pair_structure.specs.declared.side.LocalArc.{LocalArc}
@@ -8,11 +8,11 @@ use Rattle.ctl_form.specs.declared.pair_spec.PairSpec.{PairSpec}
 use Rattle.interconnection.specs.declared.parts.Process.{Process}
 use Rattle.interconnection.specs.declared.parts.Edge.{Edge}
 use Rattle.text_cause.specs.declared.cause.TextCause.{TextCause}
-use Rattle.text_cause.specs.declared.cause.TextCause.TheVariants.{UnknownName, Twice, SelfArc, TooMany, SelfEdge, EdgeTwice, DegreeOver, RoleMismatch}
+use Rattle.text_cause.specs.declared.cause.TextCause.TheVariants.{UnknownName, Twice, SelfArc, TooMany, SelfEdge, EdgeTwice, DegreeOver, RoleMismatch, NotAStart}
 use Rattle.ctl_text.specs.Value.{role_names, kind_names, process_names, number_in, AreJoined}
 use Rattle.text_cause.specs.Cause.{IsLowest, IsFree, cause_no, Row, Or}
-use Rattle.ctl_text.specs.Cause.{IsFirstCrowded, IsCrowded, AreOfKind, UseStands}
-use Rattle.ctl_text.specs.inside.LineCause.{NameStands, ArcStands, JoinStands, EdgeStands}
+use Rattle.ctl_text.specs.Cause.{IsFirstCrowded, IsCrowded, AreOfKind, IsNoStart, IsUnknownStart, UseStands}
+use Rattle.ctl_text.specs.inside.LineCause.{NameStands, BeginStands, ArcStands, JoinStands, EdgeStands}
 use Rattle.text_cause.proofs.Lowest.{From, from_row, from_or, row_lowest, row_free, or_free, or_left, or_right}
 
 abbrev Declared : List (List ℕ) → List ℕ → TextCause → Type 0
@@ -55,6 +55,24 @@ use_none names name rest there free = or_free (UseStands names name) rest (use_f
 -- a process: its role, then its name
 pub process_from : (processes : List Process) (name : List ℕ) → From 5 (NameStands (process_names processes) MAX_PROCESSES name)
 process_from processes name = name_from (process_names processes) MAX_PROCESSES name
+
+-- a process of a role: where it is to begin, then its name
+abbrev BeginUnknown : RoleParts → Option (List ℕ) → TextCause → Type 0
+BeginUnknown r start = Row UnknownName (IsUnknownStart r start)
+
+abbrev BeginElsewhere : RoleParts → Option (List ℕ) → TextCause → Type 0
+BeginElsewhere r start = Row NotAStart (IsNoStart r start)
+
+abbrev BeginNamed : RoleParts → List Process → List ℕ → Option (List ℕ) → TextCause → Type 0
+BeginNamed r processes name start = Or (NameStands (process_names processes) MAX_PROCESSES name) (BeginElsewhere r start)
+
+pub begin_elsewhere : (r : RoleParts) (processes : List Process) (name : List ℕ) (start : Option (List ℕ)) → (IsUnknownStart r start → ⊥) → IsFree (NameStands (process_names processes) MAX_PROCESSES name) → IsNoStart r start → IsLowest (BeginStands r processes name start) NotAStart
+begin_elsewhere r processes name start known free other = or_right (BeginUnknown r start) (BeginNamed r processes name start) NotAStart (row_free UnknownName (IsUnknownStart r start) known)
+    (or_right (NameStands (process_names processes) MAX_PROCESSES name) (BeginElsewhere r start) NotAStart free (row_lowest NotAStart (IsNoStart r start) other))
+
+pub begin_free : (r : RoleParts) (processes : List Process) (name : List ℕ) (start : Option (List ℕ)) → (IsUnknownStart r start → ⊥) → IsFree (NameStands (process_names processes) MAX_PROCESSES name) → (IsNoStart r start → ⊥) → IsFree (BeginStands r processes name start)
+begin_free r processes name start known free begins = or_free (BeginUnknown r start) (BeginNamed r processes name start) (row_free UnknownName (IsUnknownStart r start) known)
+    (or_free (NameStands (process_names processes) MAX_PROCESSES name) (BeginElsewhere r start) free (row_free NotAStart (IsNoStart r start) begins))
 
 -- a kind: its roles, then its name
 pub kind_from : (roles : List RoleParts) (kinds : List PairSpec) (name b : List ℕ) → From 5 (Or (UseStands (role_names roles) b) (NameStands (kind_names kinds) MAX_KINDS name))

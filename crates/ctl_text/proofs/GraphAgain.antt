@@ -1,5 +1,5 @@
 -- The canonical lines of processes and edges are taken again, and so is a whole canonical text.
-use Rattle.std.proofs.Common.{ℕ, suc, ◌≡◌, ◌<◌, ◌≤◌, ◌+◌, ◌⊎◌, inl, inr, true, List, [], ◌∷◌, ◌++◌, map, length, get_or, cond, sym, ap, ◌∙◌, arith, subst, refl, All, AllPairs, Contains, append_assoc, append-nil, length-append}
+use Rattle.std.proofs.Common.{ℕ, suc, ◌≡◌, ◌<◌, ◌≤◌, ◌+◌, ◌⊎◌, inl, inr, true, Option, List, [], ◌∷◌, ◌++◌, map, length, get_or, cond, sym, ap, ◌∙◌, arith, subst, refl, All, AllPairs, Contains, append_assoc, append-nil, length-append}
 use Rattle.std.proofs.lemmas.Bool.Decides.{nat_tests}
 use Rattle.std.proofs.lemmas.List.{get_or_default, get_or_append_left, length-map, map-append}
 use Rattle.std.proofs.lemmas.List.Sums.{sum_by-append, sum_by-cons}
@@ -12,20 +12,21 @@ use Rattle.pair_structure.specs.Parts.{role_at}
 use Rattle.interconnection.specs.declared.parts.Process.{Process}
 use Rattle.interconnection.specs.declared.parts.Edge.{Edge}
 use Rattle.interconnection.specs.Graph.{joins, degree_of, JoinSame}
-use Rattle.interconnection.specs.Network.{AreLawful}
+use Rattle.interconnection.specs.Network.{AreLawful, BeginsInStart}
 use Rattle.text_cause.specs.declared.cause.TextCause.{TextCause}
 use Rattle.ctl_text.specs.Cause.{AreOfKind}
-use Rattle.ctl_text.specs.inside.LineCause.{ProcessStands, JoinStands, EdgeStands}
+use Rattle.ctl_text.specs.inside.LineCause.{BeginStands, ProcessStands, JoinStands, EdgeStands}
 use Rattle.ctl_text.specs.Item.{head_line, done_line}
 use Rattle.ctl_text.specs.SoundValue.{Differ, IsNamedRole, IsNamedKind, IsNamedProcess, IsSoundValue}
-use Rattle.ctl_text.specs.SpecText.{line_for, role_lines, kind_lines, process_item, process_text, edge_item, edge_text, spec_lines, spec_text}
+use Rattle.ctl_text.specs.SpecText.{line_for, role_lines, kind_lines, process_item, process_text, start_name, edge_item, edge_text, spec_lines, spec_text}
 use Rattle.ctl_text.specs.State.{State, Group, among_roles, among_processes, among_edges, after_done, first_state}
 use Rattle.ctl_text.specs.Text.{IsSpecText}
-use Rattle.ctl_text.specs.Value.{role_names, kind_names, process_names, SpecParts, kind_ends, number_in, AreJoined, kind_at, process_at}
+use Rattle.ctl_text.specs.Value.{role_names, kind_names, process_names, SpecParts, kind_ends, number_in, AreJoined, kind_at, process_at, start_named}
 use Rattle.ctl_text.proofs.GraphKept.{ends_at}
-use Rattle.ctl_text.proofs.KindsAgain.{LetsEdges, LetsProcesses, role_there, name_there, kinds_go}
+use Rattle.ctl_text.proofs.KindsAgain.{LetsEdges, LetsProcesses, role_named, role_there, name_there, kinds_go}
 use Rattle.ctl_text.proofs.LinesTaken.{Goes, goes_further, goes_stand, item_goes}
 use Rattle.ctl_text.proofs.RolesAgain.{At, name_free, use_free, distinct_new, roles_go}
+use Rattle.ctl_text.proofs.StartNames.{NamesStart, start_again}
 
 -- an edge between two processes of its kind's roles
 record IsEdgeOf (processes : List Process) (kinds : List PairSpec) (e : Edge) : Type 0 where
@@ -47,27 +48,36 @@ edge_of v h k d lt =
       of_kind = record { role_a = (h.matching k d lt).0 ∙ ap (λ (ends : ℕ × ℕ). ends.0) at; role_b = (h.matching k d lt).1 ∙ ap (λ (ends : ℕ × ℕ). ends.1) at };
     }
 
-process_free : (rs : List RoleParts) (ps : List Process) (name r : List ℕ) → Contains (role_names rs) r → (Contains (process_names ps) name → ⊥) → length (process_names ps) < MAX_PROCESSES → (cause : TextCause) → ProcessStands rs ps name r cause → ⊥
-process_free rs ps name r there fresh few cause (inl h) = use_free (role_names rs) r there cause h
-process_free rs ps name r there fresh few cause (inr h) = name_free (process_names ps) MAX_PROCESSES name fresh few cause h
+begin_free : (r : RoleParts) (ps : List Process) (name : List ℕ) (p : ℕ) (start : Option (List ℕ)) → NamesStart r p start → (Contains (process_names ps) name → ⊥) → length (process_names ps) < MAX_PROCESSES → (cause : TextCause) → BeginStands r ps name start cause → ⊥
+begin_free r ps name p start names fresh few cause (inl h) = names.known h.1
+begin_free r ps name p start names fresh few cause (inr (inl h)) = name_free (process_names ps) MAX_PROCESSES name fresh few cause h
+begin_free r ps name p start names fresh few cause (inr (inr h)) = names.begins h.1
 
-process_again : (rs : List RoleParts) (p : Process) (r : ℕ) → r ≡ p.role → ◌≡◌ {A = Process} (record { name = p.name; role = r }) p
-process_again rs p r same = rw same refl
+process_free : (rs : List RoleParts) (ps : List Process) (name r : List ℕ) (k p : ℕ) (start : Option (List ℕ)) → Contains (role_names rs) r → number_in (role_names rs) r ≡ k → NamesStart (role_at rs k) p start → (Contains (process_names ps) name → ⊥) → length (process_names ps) < MAX_PROCESSES → (cause : TextCause) → ProcessStands rs ps name r start cause → ⊥
+process_free rs ps name r k p start there is names fresh few cause (inl h) = use_free (role_names rs) r there cause h
+process_free rs ps name r k p start there is names fresh few cause (inr h) = begin_free (role_at rs k) ps name p start names fresh few cause (subst (λ (n : ℕ). BeginStands (role_at rs n) ps name start cause) is h)
 
-processes_go : (g : Group) (rs : List RoleParts) (ks : List PairSpec) (front back : List Process) (tail : List (List ℕ)) (t : State) → LetsProcesses g → All IsNamedRole rs → Differ (role_names rs) → All (IsNamedProcess (length rs)) back → Differ (process_names (front ++ back)) → length (front ++ back) ≤ MAX_PROCESSES
+process_again : (p : Process) (role start : ℕ) → role ≡ p.role → start ≡ p.start → ◌≡◌ {A = Process} (record { name = p.name; role = role; start = start }) p
+process_again p role start role_is start_is = rw (role_is, start_is) refl
+
+processes_go : (g : Group) (rs : List RoleParts) (ks : List PairSpec) (front back : List Process) (tail : List (List ℕ)) (t : State) → LetsProcesses g → All IsNamedRole rs → Differ (role_names rs) → All (IsNamedProcess (length rs)) back → All (BeginsInStart rs) back → Differ (process_names (front ++ back)) → length (front ++ back) ≤ MAX_PROCESSES
     → ((h : Group) → LetsEdges h → Goes (At rs ks (front ++ back) [] h) tail t) → Goes (At rs ks front [] g) (map (process_text rs) back ++ tail) t
-processes_go g rs ks front [] tail t lets named differ each distinct few then = subst (λ (whole : List Process). Goes (At rs ks whole [] g) tail t) (append-nil front) (then g lets.1)
-processes_go g rs ks front (p ∷ back) tail t lets named differ each distinct few then =
+processes_go g rs ks front [] tail t lets named differ each begins distinct few then = subst (λ (whole : List Process). Goes (At rs ks whole [] g) tail t) (append-nil front) (then g lets.1)
+processes_go g rs ks front (p ∷ back) tail t lets named differ each begins distinct few then =
     let here = each 0 p (omega arith) in
     let same : (front ++ p ∷ []) ++ back ≡ front ++ p ∷ back = append_assoc front (p ∷ []) back in
     let there = role_there rs p.role here.role differ in
-    let role = named p.role (record { name = []; locals = []; start = 0; arcs = [] }) here.role in
+    let role = role_named rs p.role named here.role in
+    let name = (role_at rs p.role).name in
+    let start = start_name (role_at rs p.role) p.start in
+    let names = start_again (role_at rs p.role) p.start role (begins 0 p (omega arith)) in
     let fresh = distinct_new (process_names front) p.name (process_names back) (subst Differ (map-append (λ (p : Process). p.name) front (p ∷ back)) distinct) in
-    let more = processes_go among_processes rs ks (front ++ p ∷ []) back tail t (λ name r. tt, (λ p q kind. tt, tt)) named differ (λ i d lt. each (suc i) d (omega arith)) (subst (λ (whole : List Process). Differ (process_names whole)) (sym same) distinct) (subst (λ (whole : List Process). length whole ≤ MAX_PROCESSES) (sym same) few)
+    let again = process_again p (number_in (role_names rs) name) (start_named (role_at rs (number_in (role_names rs) name)) start) there.1 (ap (λ (k : ℕ). start_named (role_at rs k) start) there.1 ∙ names.named) in
+    let more = processes_go among_processes rs ks (front ++ p ∷ []) back tail t (λ name r start. tt, (λ p q kind. tt, tt)) named differ (λ i d lt. each (suc i) d (omega arith)) (λ i d lt. begins (suc i) d (omega arith)) (subst (λ (whole : List Process). Differ (process_names whole)) (sym same) distinct) (subst (λ (whole : List Process). length whole ≤ MAX_PROCESSES) (sym same) few)
     (λ h lets_h. subst (λ (whole : List Process). Goes (At rs ks whole [] h) tail t) (sym same) (then h lets_h)) in
-    item_goes (At rs ks front [] g) t (process_item rs p) (map (process_text rs) back ++ tail) tt (lets.0 p.name (role_at rs p.role).name) (here.name, role.name)
-    (record { free = process_free rs front p.name (role_at rs p.role).name there.0 fresh (omega (arith, length-append front (p ∷ back), length-map front (λ (p : Process). p.name))) })
-    (subst (λ (q : Process). Goes (At rs ks (front ++ q ∷ []) [] among_processes) (map (process_text rs) back ++ tail) t) (sym (process_again rs p (number_in (role_names rs) (role_at rs p.role).name) there.1)) more)
+    item_goes (At rs ks front [] g) t (process_item rs p) (map (process_text rs) back ++ tail) tt (lets.0 p.name name start) (here.name, role.name, names.spelled)
+    (record { free = process_free rs front p.name name p.role p.start start there.0 there.1 names fresh (omega (arith, length-append front (p ∷ back), length-map front (λ (p : Process). p.name))) })
+    (subst (λ (q : Process). Goes (At rs ks (front ++ q ∷ []) [] among_processes) (map (process_text rs) back ++ tail) t) (sym again) more)
 
 at_a : (k : ℕ) (e : Edge) → k ≡ e.a → joins k e ≡ true
 at_a k e h = grind (arith, nat_tests)
@@ -120,7 +130,7 @@ edges_go g rs ks ps front (e ∷ back) lets kinds processes kinds_differ differ 
     let is = each 0 e (omega arith) in
     let same : (front ++ e ∷ []) ++ back ≡ front ++ e ∷ back = append_assoc front (e ∷ []) back in
     let tail = map (edge_text ps ks) back ++ (line_for done_line ∷ []) in
-    let d : Process = record { name = []; role = 0 } in
+    let d = process_at [] 0 in
     let c : PairSpec = record { name = []; role_a = 0; role_b = 0; clauses = [] } in
     let p = name_there (λ (x : Process). x.name) ps d e.a is.a differ in
     let q = name_there (λ (x : Process). x.name) ps d e.b is.b differ in
@@ -140,7 +150,7 @@ text_stands v is =
     let processes : List (List ℕ) = map (process_text v.roles) v.processes ++ edges in
     let kinds : List (List ℕ) = flat_map (kind_lines v.roles) v.kinds ++ processes in
     let from_edges = λ (g : Group) (lets : LetsEdges g). edges_go g v.roles v.kinds v.processes [] v.edges lets is.kinds is.processes is.kinds_differ is.processes_differ (edge_of v is.network) is.network.single is.few_beside in
-    let from_processes = λ (g : Group) (lets : LetsProcesses g). processes_go g v.roles v.kinds [] v.processes edges last lets is.roles is.roles_differ is.processes is.processes_differ is.network.few_processes from_edges in
-    let from_kinds = kinds_go among_roles v.roles [] v.kinds processes last (λ name a b. tt, (λ name r. tt, (λ p q kind. tt, tt))) is.roles is.roles_differ is.kinds is.kinds_differ few_kinds from_processes in
+    let from_processes = λ (g : Group) (lets : LetsProcesses g). processes_go g v.roles v.kinds [] v.processes edges last lets is.roles is.roles_differ is.processes is.network.own_starts is.processes_differ is.network.few_processes from_edges in
+    let from_kinds = kinds_go among_roles v.roles [] v.kinds processes last (λ name a b. tt, (λ name r start. tt, (λ p q kind. tt, tt))) is.roles is.roles_differ is.kinds is.kinds_differ few_kinds from_processes in
     let from_roles = goes_further (At [] [] [] [] among_roles) (At v.roles [] [] [] among_roles) last (flat_map role_lines v.roles) kinds (roles_go [] v.roles is.roles is.roles_differ is.network.few_roles) from_kinds in
     goes_stand first_state last (spec_lines v) v (item_goes first_state last head_line (flat_map role_lines v.roles ++ kinds) tt tt tt (record { free = λ cause h. h }) from_roles) (refl, refl)

@@ -1,5 +1,5 @@
 -- What makes a network is kept where a role, a kind, a process or an edge is declared.
-use Rattle.std.proofs.Common.{ℕ, ◌≡◌, ◌<◌, ◌≤◌, ◌+◌, ◌⊎◌, inl, inr, Bool, true, false, ◌==◌, List, [], ◌∷◌, ◌++◌, length, get_or, cond, refl, sym, ap, ◌∙◌, subst, arith, length-append}
+use Rattle.std.proofs.Common.{ℕ, ◌≡◌, ◌<◌, ◌≤◌, ◌+◌, ◌⊎◌, inl, inr, Bool, true, false, ◌==◌, List, [], ◌∷◌, ◌++◌, length, get_or, Contains, cond, refl, sym, ap, ◌∙◌, subst, arith, length-append}
 use Rattle.std.proofs.lemmas.Bool.{cases_lt, cases_eq, eqb-true}
 use Rattle.std.proofs.lemmas.List.{get_or_append_left, get_or_default, get_or-map, length-map, map-append}
 use Rattle.std.proofs.lemmas.List.Elements.{All-push}
@@ -10,11 +10,12 @@ use Rattle.ctl_form.specs.declared.pair_spec.PairSpec.{PairSpec}
 use Rattle.interconnection.specs.declared.parts.Edge.{Edge}
 use Rattle.interconnection.specs.declared.parts.Process.{Process}
 use Rattle.interconnection.specs.Graph.{JoinSame, degree_of}
-use Rattle.interconnection.specs.Network.{AreLawful, AreRoles, HasRole, HasRoles, IsInRange, JoinsTwo, ends_of, role_of}
+use Rattle.interconnection.specs.Network.{AreLawful, AreRoles, BeginsInStart, HasRole, HasRoles, IsInRange, JoinsTwo, ends_of, process_at, role_of}
 use Rattle.ctl_text.specs.Value.{AreJoined, kind_ends, kind_at}
 use Rattle.ctl_text.specs.Cause.{IsCrowded}
 use Rattle.interconnection.specs.inside.EdgeTable.{other_end, other_ends}
 use Rattle.interconnection.proofs.EdgeTables.{other_ends-append, other_ends-length}
+use Rattle.ctl_text.proofs.NormalsKept.{same_role}
 
 wider : (roles : List RoleParts) (r : RoleParts) (n : ℕ) → n < length roles → n < length (roles ++ r ∷ [])
 wider roles r n lt = omega (arith, lt, length-append roles (r ∷ []))
@@ -27,6 +28,7 @@ role_grown roles r ends processes edges h room = record {
   few_processes = h.few_processes;
   kinds = λ k d lt. (wider roles r (get_or ends k d).0 (h.kinds k d lt).0, wider roles r (get_or ends k d).1 (h.kinds k d lt).1);
   own_roles = λ k d lt. wider roles r (get_or processes k d).role (h.own_roles k d lt);
+  own_starts = λ k d lt. subst (λ (x : RoleParts). Contains x.starts (get_or processes k d).start) (same_role roles r (get_or processes k d).role (h.own_roles k d lt)) (h.own_starts k d lt);
   in_range = h.in_range;
   joins_two = h.joins_two;
   single = h.single;
@@ -45,6 +47,7 @@ kind_grown roles ends pair processes edges h room within = record {
   few_processes = h.few_processes;
   kinds = All-push (AreRoles roles) ends pair h.kinds within;
   own_roles = h.own_roles;
+  own_starts = h.own_starts;
   in_range = λ k d lt. ((h.in_range k d lt).0, (h.in_range k d lt).1, (let below = (h.in_range k d lt).2 in omega (arith, below, length-append ends (pair ∷ []))));
   joins_two = h.joins_two;
   single = h.single;
@@ -53,21 +56,22 @@ kind_grown roles ends pair processes edges h room within = record {
   degrees = h.degrees;
 }
 
-same_role : (processes : List Process) (process : Process) (k : ℕ) → k < length processes → role_of (processes ++ process ∷ []) k ≡ role_of processes k
-same_role processes process k lt = ap (λ (p : Process). p.role) (get_or_append_left processes (process ∷ []) (record { name = []; role = 0 }) k lt)
+same_role_of : (processes : List Process) (process : Process) (k : ℕ) → k < length processes → role_of (processes ++ process ∷ []) k ≡ role_of processes k
+same_role_of processes process k lt = ap (λ (p : Process). p.role) (get_or_append_left processes (process ∷ []) (process_at [] 0) k lt)
 
 pub process_grown : (roles : List RoleParts) (ends : List (ℕ × ℕ)) (processes : List Process) (process : Process) (edges : List Edge)
-    → AreLawful roles ends processes edges → length processes + 1 ≤ MAX_PROCESSES → process.role < length roles → ((k : ℕ) → degree_of edges k ≤ MAX_NEIGHBOURS) → AreLawful roles ends (processes ++ process ∷ []) edges
-process_grown roles ends processes process edges h room within few = record {
+    → AreLawful roles ends processes edges → length processes + 1 ≤ MAX_PROCESSES → process.role < length roles → BeginsInStart roles process → ((k : ℕ) → degree_of edges k ≤ MAX_NEIGHBOURS) → AreLawful roles ends (processes ++ process ∷ []) edges
+process_grown roles ends processes process edges h room within begins few = record {
   few_roles = h.few_roles;
   few_kinds = h.few_kinds;
   few_processes = omega (arith, room, length-append processes (process ∷ []));
   kinds = h.kinds;
   own_roles = All-push (HasRole roles) processes process h.own_roles within;
+  own_starts = All-push (BeginsInStart roles) processes process h.own_starts begins;
   in_range = λ k d lt. (more (get_or edges k d).a (h.in_range k d lt).0, more (get_or edges k d).b (h.in_range k d lt).1, (h.in_range k d lt).2);
   joins_two = h.joins_two;
   single = h.single;
-  matching = λ k d lt. (same_role processes process (get_or edges k d).a (h.in_range k d lt).0 ∙ (h.matching k d lt).0, same_role processes process (get_or edges k d).b (h.in_range k d lt).1 ∙ (h.matching k d lt).1);
+  matching = λ k d lt. (same_role_of processes process (get_or edges k d).a (h.in_range k d lt).0 ∙ (h.matching k d lt).0, same_role_of processes process (get_or edges k d).b (h.in_range k d lt).1 ∙ (h.matching k d lt).1);
   degrees = λ k lt. few k;
 }
   where
@@ -115,6 +119,7 @@ edge_grown roles ends processes edges e h within differ fresh fits none few = re
   few_processes = h.few_processes;
   kinds = h.kinds;
   own_roles = h.own_roles;
+  own_starts = h.own_starts;
   in_range = All-push (IsInRange ends processes) edges e h.in_range within;
   joins_two = All-push JoinsTwo edges e h.joins_two differ;
   single = all_pairs_push (λ x y. JoinSame x y → ⊥) edges e h.single (λ k d lt same. fresh (k, get_or edges k d, lt, get_or_default edges k (get_or edges k d) d lt, same));
@@ -142,6 +147,7 @@ none_declared = record {
   few_processes = omega arith;
   kinds = λ k d lt. absurd (omega arith);
   own_roles = λ k d lt. absurd (omega arith);
+  own_starts = λ k d lt. absurd (omega arith);
   in_range = λ k d lt. absurd (omega arith);
   joins_two = λ k d lt. absurd (omega arith);
   single = λ i j d lt within. absurd (omega arith);

@@ -7,7 +7,7 @@ use Rattle.ctl_text.specs.Lines.{IsRequire}
 use Rattle.ctl_form.specs.Form.{Form}
 use Rattle.pair_structure.specs.Parts.{role_at}
 use Rattle.pair_structure.specs.Role.{RoleParts}
-use Rattle.ctl_text.specs.State.{State, Group, before_head, among_roles, in_locals, in_arcs, among_kinds, in_kind, among_processes, among_edges, after_done, MayStand}
+use Rattle.ctl_text.specs.State.{State, Group, before_head, among_roles, in_role, among_kinds, in_kind, among_processes, among_edges, after_done, MayStand}
 use Rattle.ctl_text.specs.Cause.{IsClauseSpelled, MaySay}
 use Rattle.ctl_text.specs.inside.ItemReading.{item_at}
 use Rattle.ctl_text.specs.Required.{tokens_in}
@@ -28,7 +28,8 @@ read_again (arc_line from to true) = inl refl
 read_again (kind_line name a b) = inl refl
 read_again (require_line words form) = inr (words, form, refl)
 read_again end_line = inl refl
-read_again (process_line name r) = inl refl
+read_again (process_line name r None) = inl refl
+read_again (process_line name r (Some start)) = inl refl
 read_again (edge_line p q kind) = inl refl
 read_again done_line = inl refl
 
@@ -53,8 +54,7 @@ clause_once : (roles : List RoleParts) (g : Group) (words : List (List ℕ)) (c 
 clause_once roles (in_kind k) words c d may p q = spelled_once (signs_of (role_at roles k.role_a).locals (role_at roles k.role_b).locals (tokens_in words)) c d p q
 clause_once roles before_head words c d may p q = absurd may
 clause_once roles among_roles words c d may p q = absurd may
-clause_once roles (in_locals n names) words c d may p q = absurd may
-clause_once roles (in_arcs r) words c d may p q = absurd may
+clause_once roles (in_role r) words c d may p q = absurd may
 clause_once roles among_kinds words c d may p q = absurd may
 clause_once roles among_processes words c d may p q = absurd may
 clause_once roles among_edges words c d may p q = absurd may
@@ -90,7 +90,7 @@ other_clause s ws (arc_line from to free) other says = tt
 other_clause s ws (kind_line name a b) other says = tt
 other_clause s ws (require_line words form) other says = absurd (other (subst IsRequire (sym says.words_are) refl))
 other_clause s ws end_line other says = tt
-other_clause s ws (process_line name r) other says = tt
+other_clause s ws (process_line name r start) other says = tt
 other_clause s ws (edge_line p q kind) other says = tt
 other_clause s ws done_line other says = tt
 
@@ -129,9 +129,10 @@ item_takes (w ∷ a ∷ []) x e =
     (tried w (codes "start") (start_line a) x _ (λ p q. rw p (ap words_for q)) (λ n. absurd (none-some x n))))) e
 item_takes (w ∷ a ∷ b ∷ []) x e =
     tried w (codes "arc") (arc_line a b false) x _ (λ p q. rw p (ap words_for q))
-    (tried w (codes "process") (process_line a b) x _ (λ p q. rw p (ap words_for q)) (λ n. absurd (none-some x n))) e
+    (tried w (codes "process") (process_line a b None) x _ (λ p q. rw p (ap words_for q)) (λ n. absurd (none-some x n))) e
 item_takes (w ∷ a ∷ b ∷ c ∷ []) x e =
     tried_two w (codes "arc") c (codes "free") (arc_line a b true) x _ (λ p p2 q. rw (p, p2) (ap words_for q))
     (tried w (codes "kind") (kind_line a b c) x _ (λ p q. rw p (ap words_for q))
-    (tried w (codes "edge") (edge_line a b c) x _ (λ p q. rw p (ap words_for q)) (λ n. absurd (none-some x n)))) e
+    (tried w (codes "process") (process_line a b (Some c)) x _ (λ p q. rw p (ap words_for q))
+    (tried w (codes "edge") (edge_line a b c) x _ (λ p q. rw p (ap words_for q)) (λ n. absurd (none-some x n))))) e
 item_takes (w ∷ a ∷ b ∷ c ∷ d ∷ ws) x e = absurd (none-some x e)

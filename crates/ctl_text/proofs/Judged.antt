@@ -1,16 +1,17 @@
 -- What stands against a line, from what stands against what it says.
-use Rattle.std.proofs.Common.{ℕ, ◌≡◌, ◌<◌, ◌≤◌, inl, inr, List, [], ◌∷◌, refl, sym, ap, ◌∙◌, arith, subst, true, false}
+use Rattle.std.proofs.Common.{ℕ, ◌≡◌, ◌<◌, inl, inr, List, [], ◌∷◌, refl, sym, ap, ◌∙◌, arith, subst, true, false}
 use Rattle.text_cause.specs.declared.cause.TextCause.{TextCause}
-use Rattle.text_cause.specs.declared.cause.TextCause.TheVariants.{NotText, BadHead, Long, BadLine, UnknownName, Twice, SelfArc, NoArc, TooMany, ClosureOver, SelfEdge, EdgeTwice, DegreeOver, RoleMismatch, NotAPair, NotRising, Disagree}
+use Rattle.text_cause.specs.declared.cause.TextCause.TheVariants.{NotText, BadHead, Long, BadLine}
 use Rattle.strict_text.specs.Pieces.{loose_words_of}
 use Rattle.ctl_text.specs.Lines.{IsText, ArePassed, IsRequire}
 use Rattle.ctl_text.specs.Item.{Said, head_line, words_for}
-use Rattle.ctl_text.specs.State.{State, Group, before_head, among_roles, in_locals, in_arcs, among_kinds, in_kind, among_processes, among_edges, after_done, MayStand, after}
+use Rattle.ctl_text.specs.State.{State, Group, before_head, among_roles, in_role, among_kinds, in_kind, among_processes, among_edges, after_done, MayStand, after}
 use Rattle.text_cause.specs.Cause.{IsLowest, IsFree, cause_no}
 use Rattle.ctl_text.specs.Cause.{Blocks, MaySay, IsLongLine, WordsStand, Stands, Takes}
 use Rattle.text_cause.specs.declared.line_fault.LineFault.{LineFault}
 use Rattle.text_cause.specs.declared.line_fault.LineFault.TheVariants.{Bad, Memory}
 use Rattle.text_cause.specs.Answers.{IsBadBy}
+use Rattle.text_cause.proofs.Lowest.{some_number}
 use Rattle.ctl_text.specs.inside.Judged.{IsTakenAs, CanSay, misplaced}
 use Rattle.ctl_text.specs.inside.LineCause.{LineBlocks}
 use Rattle.ctl_text.proofs.ByCause.{lowest_by_cause}
@@ -57,8 +58,7 @@ moved s h words e none item may = none item (may.0, subst (λ g. MayStand g item
 pub misplaced_lowest : (s : State) (g : Group) (words : List (List ℕ)) → s.group ≡ g → (IsRequire words → ⊥) → ((item : Said) → CanSay g words item → ⊥) → IsLowest (WordsStand s words) (misplaced g)
 misplaced_lowest s before_head words is other none = head_lowest s words is (moved s _ words is none)
 misplaced_lowest s among_roles words is other none = line_lowest s words (λ e. let h = sym is ∙ e in cc) (no_long words other) (moved s _ words is none)
-misplaced_lowest s (in_locals n names) words is other none = line_lowest s words (λ e. let h = sym is ∙ e in cc) (no_long words other) (moved s _ words is none)
-misplaced_lowest s (in_arcs r) words is other none = line_lowest s words (λ e. let h = sym is ∙ e in cc) (no_long words other) (moved s _ words is none)
+misplaced_lowest s (in_role r) words is other none = line_lowest s words (λ e. let h = sym is ∙ e in cc) (no_long words other) (moved s _ words is none)
 misplaced_lowest s among_kinds words is other none = line_lowest s words (λ e. let h = sym is ∙ e in cc) (no_long words other) (moved s _ words is none)
 misplaced_lowest s (in_kind k) words is other none = line_lowest s words (λ e. let h = sym is ∙ e in cc) (no_long words other) (moved s _ words is none)
 misplaced_lowest s among_processes words is other none = line_lowest s words (λ e. let h = sym is ∙ e in cc) (no_long words other) (moved s _ words is none)
@@ -131,25 +131,6 @@ words_refused s line ws us cause ws_are us_are text not_passed least =
 pub fault_refused : (s : State) (line : List ℕ) (ws us : List (List ℕ)) (fault : LineFault) → ws ≡ loose_words_of line → us ≡ loose_words_of line → IsText line → (ArePassed ws → ⊥) → IsBadBy (WordsStand s us) fault → IsBadBy (Stands s line) fault
 fault_refused s line ws us Memory ws_are us_are text not_passed bad = bad
 fault_refused s line ws us (Bad cause) ws_are us_are text not_passed bad = words_refused s line ws us cause ws_are us_are text not_passed bad
-
-some_number : (cause : TextCause) → 1 ≤ cause_no cause
-some_number NotText = omega arith
-some_number BadHead = omega arith
-some_number Long = omega arith
-some_number BadLine = omega arith
-some_number UnknownName = omega arith
-some_number Twice = omega arith
-some_number SelfArc = omega arith
-some_number (NoArc p) = omega arith
-some_number (TooMany limit) = omega arith
-some_number ClosureOver = omega arith
-some_number SelfEdge = omega arith
-some_number EdgeTwice = omega arith
-some_number (DegreeOver k) = omega arith
-some_number RoleMismatch = omega arith
-some_number (NotAPair fault) = omega arith
-some_number NotRising = omega arith
-some_number Disagree = omega arith
 
 -- a byte that is not allowed is named before all else
 pub text_refused : (s : State) (line : List ℕ) → (IsText line → ⊥) → IsLowest (Stands s line) NotText

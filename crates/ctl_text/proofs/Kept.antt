@@ -1,5 +1,5 @@
 -- What a line that is taken keeps.
-use Rattle.std.proofs.Common.{ℕ, zero, suc, ◌≡◌, ◌≢◌, ◌<◌, ◌≤◌, ◌+◌, ◌⊎◌, inl, inr, Bool, true, false, List, [], ◌∷◌, ◌++◌, length, get_or, Any, Contains, ◌==◌, refl, sym, ap, ◌∙◌, arith, length-append}
+use Rattle.std.proofs.Common.{ℕ, zero, suc, ◌≡◌, ◌≢◌, ◌<◌, ◌≤◌, ◌+◌, ◌⊎◌, inl, inr, Bool, true, false, Option, List, [], ◌∷◌, ◌++◌, length, get_or, Any, Contains, ◌==◌, refl, sym, ap, ◌∙◌, arith, length-append}
 use Rattle.std.proofs.lemmas.List.{get_or_default, length-map}
 use Rattle.std.proofs.lemmas.List.Elements.{All-push}
 use Rattle.std.proofs.lemmas.List.Quantifiers.{all_pairs_push}
@@ -9,19 +9,21 @@ use Rattle.std.specs.List.{list_any}
 use Rattle.pair_structure.specs.declared.limits.TheConstants.{MAX_ARCS, MAX_LOCALS}
 use Rattle.interconnection.specs.declared.limits.TheConstants.{MAX_KINDS, MAX_PROCESSES, MAX_ROLES}
 use Rattle.pair_structure.specs.declared.side.LocalArc.{LocalArc}
-use Rattle.pair_structure.specs.Role.{RoleParts, JoinsTwo, AreLawful, HasArcFrom}
+use Rattle.pair_structure.specs.Parts.{role_at}
+use Rattle.pair_structure.specs.Role.{RoleParts, JoinsTwo, IsRole, HasArcFrom}
 use Rattle.ctl_form.specs.declared.pair_spec.PairSpec.{PairSpec}
 use Rattle.interconnection.specs.declared.parts.Process.{Process}
-use Rattle.text_cause.specs.declared.cause.TextCause.TheVariants.{UnknownName, Twice, SelfArc, NoArc, TooMany}
+use Rattle.text_cause.specs.declared.cause.TextCause.TheVariants.{UnknownName, Twice, SelfArc, NoArc, TooMany, NotAStart}
 use Rattle.text_cause.specs.Cause.{IsFree}
-use Rattle.ctl_text.specs.inside.LineCause.{NameStands, ArcStands, KindStands, ProcessStands, EdgeStands, RoleEndStands}
-use Rattle.ctl_text.specs.Value.{SpecParts, number_in, role_names, kind_names, kind_ends, process_names}
-use Rattle.ctl_text.specs.inside.Sound.{AreLocals, AreArcs, IsSoundState}
-use Rattle.ctl_text.specs.Item.{head_line, end_line, process_line, edge_line, done_line}
-use Rattle.ctl_text.specs.State.{State, Group, in_locals, in_arcs, in_kind, among_processes, before_head, among_roles, among_kinds, among_edges, after_done, MayStand, opened_kind, after}
+use Rattle.ctl_text.specs.inside.LineCause.{NameStands, StartStands, ArcStands, KindStands, ProcessStands, EdgeStands, RoleEndStands}
+use Rattle.ctl_text.specs.Value.{SpecParts, number_in, role_names, role_named, kind_names, kind_ends, process_names}
+use Rattle.ctl_text.specs.inside.Sound.{AreLocals, AreStarts, AreArcs, HasStart, IsSoundRole, IsSoundState}
+use Rattle.ctl_text.specs.Item.{head_line, role_line, end_line, process_line, edge_line, done_line}
+use Rattle.ctl_text.specs.State.{State, Group, in_role, in_kind, among_processes, before_head, among_roles, among_kinds, among_edges, after_done, MayStand, opened_kind, process_in, after}
 use Rattle.ctl_text.proofs.EdgeFits.{edge_named, edge_fits}
 use Rattle.ctl_text.proofs.GraphKept.{role_grown, kind_more, process_grown, edge_grown, degree_grown}
 use Rattle.ctl_text.proofs.Named.{contained, named_at, number_within}
+use Rattle.ctl_text.proofs.StartNames.{begins_in}
 
 not_over : (n m : ℕ) → (m ≤ n → ⊥) → n < m
 not_over n m not_le = elim (cases_lt n m) [ inl lt ↦ lt | inr le ↦ absurd (not_le le) ]
@@ -32,13 +34,41 @@ locals_more names name sound free = record {
   names_differ = all_pairs_push (λ x y. x ≢ y) names name sound.names_differ (λ k d lt same. free.free Twice (inl (refl, (k, lt, get_or_default names k name d lt ∙ same))));
 }
 
+pub starts_more : (names : List (List ℕ)) (starts : List ℕ) (name : List ℕ) (start : ℕ) → AreStarts (length names) starts → IsFree (StartStands names starts name) → start ≡ number_in names name → AreStarts (length names) (starts ++ start ∷ [])
+starts_more names starts name start sound free is =
+    let there = contained names name (λ h. free.free UnknownName (inl (refl, h))) in record {
+      within = All-push (λ start. start < length names) starts start sound.within (rw is (number_within names name there));
+      starts_differ = all_pairs_push (λ x y. x ≢ y) starts start sound.starts_differ (λ k d lt same. free.free Twice (inr (refl, (k, lt, get_or_default starts k (number_in names name) d lt ∙ same ∙ is))));
+    }
+
+-- what is among so many local states is among more
+starts_wider : (n m : ℕ) (starts : List ℕ) → n ≤ m → AreStarts n starts → AreStarts m starts
+starts_wider n m starts le h = record { within = λ k d lt. (let below = h.within k d lt in omega (arith, below, le)); starts_differ = h.starts_differ }
+
+arc_wider : (n m : ℕ) (arc : LocalArc) → n ≤ m → JoinsTwo n arc → JoinsTwo m arc
+arc_wider n m arc le h = record { from = (let below = h.from in omega (arith, below, le)); to = (let below = h.to in omega (arith, below, le)); differ = h.differ }
+
+arcs_wider : (n m : ℕ) (made : List LocalArc) → n ≤ m → AreArcs n made → AreArcs m made
+arcs_wider n m made le h = record { few_arcs = h.few_arcs; joins = λ k d lt. arc_wider n m (get_or made k d) le (h.joins k d lt); ends_differ = h.ends_differ }
+
+-- an open role with one more local state
+pub local_sound : (r : RoleParts) (name : List ℕ) → IsSoundRole r → IsFree (NameStands r.locals MAX_LOCALS name) → IsSoundRole (record r { locals = r.locals ++ name ∷ [] })
+local_sound r name sound free =
+    let le : length r.locals ≤ length (r.locals ++ name ∷ []) = omega (arith, length-append r.locals (name ∷ [])) in record {
+      locals = locals_more r.locals name sound.locals free;
+      starts = starts_wider (length r.locals) (length (r.locals ++ name ∷ [])) r.starts le sound.starts;
+      arcs = arcs_wider (length r.locals) (length (r.locals ++ name ∷ [])) r.arcs le sound.arcs;
+    }
+
 pub arcs_more : (names : List (List ℕ)) (made : List LocalArc) (p q : List ℕ) (arc : LocalArc) → AreArcs (length names) made → IsFree (ArcStands names made p q)
-    → arc.from ≡ number_in names p → arc.to ≡ number_in names q → arc.from < length names → arc.to < length names → AreArcs (length names) (made ++ arc ∷ [])
-arcs_more names made p q arc sound free from to from_in to_in =
+    → arc.from ≡ number_in names p → arc.to ≡ number_in names q → AreArcs (length names) (made ++ arc ∷ [])
+arcs_more names made p q arc sound free from to =
     let p_there = contained names p (λ h. free.free UnknownName (inl (refl, h))) in
     let q_there = contained names q (λ h. free.free UnknownName (inr (inl (refl, h)))) in
     let p_is = named_at names p p_there in
-    let q_is = named_at names q q_there in record {
+    let q_is = named_at names q q_there in
+    let from_in : arc.from < length names = rw from (number_within names p p_there) in
+    let to_in : arc.to < length names = rw to (number_within names q q_there) in record {
       few_arcs = (let few = not_over (length made) MAX_ARCS (λ h. free.free (TooMany MAX_ARCS) (inr (inr (inr (inr (refl, h)))))) in omega (arith, length-append made (arc ∷ [])));
       joins = All-push (JoinsTwo (length names)) made arc sound.joins (record { from = from_in; to = to_in; differ = λ same. free.free SelfArc (inr (inr (inr (inl (refl, (let n : number_in names p ≡ number_in names q = cc in sym p_is ∙ ap (λ n. get_or names n []) n ∙ q_is)))))) });
       ends_differ = all_pairs_push (λ (x y : LocalArc). x.from ≡ y.from → x.to ≡ y.to → ⊥) made arc sound.ends_differ
@@ -71,16 +101,18 @@ all_left names made free (suc n) le k k_lt =
       ]
     ]
 
-pub role_made : (names : List (List ℕ)) (start : ℕ) (made : List LocalArc) → AreLocals names → start < length names → AreArcs (length names) made → IsFree (RoleEndStands names made) → AreLawful names start made
-role_made names start made distinct starts arcs free = record {
-  some = omega arith;
-  few_locals = distinct.few_locals;
-  names_differ = distinct.names_differ;
-  starts = starts;
-  few_arcs = arcs.few_arcs;
-  joins = arcs.joins;
-  ends_differ = arcs.ends_differ;
-  leaves = all_left names made free (length names) (omega arith);
+pub role_made : (r : RoleParts) → IsSoundRole r → 0 < length r.starts → IsFree (RoleEndStands r.locals r.arcs) → IsRole r
+role_made r sound begins free = record {
+  some = (let first = sound.starts.within 0 0 begins in omega (arith, first));
+  few_locals = sound.locals.few_locals;
+  names_differ = sound.locals.names_differ;
+  begins = begins;
+  starts_within = sound.starts.within;
+  starts_differ = sound.starts.starts_differ;
+  few_arcs = sound.arcs.few_arcs;
+  joins = sound.arcs.joins;
+  ends_differ = sound.arcs.ends_differ;
+  leaves = all_left r.locals r.arcs free (length r.locals) (omega arith);
 }
 
 -- there is room for one more
@@ -90,16 +122,22 @@ role_room roles name free = let few = not_over (length (role_names roles)) MAX_R
 pub kind_room : (roles : List RoleParts) (kinds : List PairSpec) (name a b : List ℕ) → IsFree (KindStands roles kinds name a b) → length kinds + 1 ≤ MAX_KINDS
 kind_room roles kinds name a b free = let few = not_over (length (kind_names kinds)) MAX_KINDS (λ h. free.free (TooMany MAX_KINDS) (inr (inr (inr (refl, h))))) in omega (arith, length-map kinds (λ (k : PairSpec). k.name))
 
-pub process_room : (roles : List RoleParts) (processes : List Process) (name r : List ℕ) → IsFree (ProcessStands roles processes name r) → length processes + 1 ≤ MAX_PROCESSES
-process_room roles processes name r free = let few = not_over (length (process_names processes)) MAX_PROCESSES (λ h. free.free (TooMany MAX_PROCESSES) (inr (inr (refl, h)))) in omega (arith, length-map processes (λ (p : Process). p.name))
+pub process_room : (roles : List RoleParts) (processes : List Process) (name r : List ℕ) (start : Option (List ℕ)) → IsFree (ProcessStands roles processes name r start) → length processes + 1 ≤ MAX_PROCESSES
+process_room roles processes name r start free =
+    let few = not_over (length (process_names processes)) MAX_PROCESSES (λ h. free.free (TooMany MAX_PROCESSES) (inr (inr (inl (inr (refl, h)))))) in omega (arith, length-map processes (λ (p : Process). p.name))
 
-pub no_locals : (names : List (List ℕ)) → names ≡ [] → AreLocals names
-no_locals names none = rw none (record { few_locals = omega arith; names_differ = λ i j d lt within. absurd (omega arith) })
+none_sound : (name : List ℕ) → IsSoundRole (record { name = name; locals = []; starts = []; arcs = [] })
+none_sound name = record {
+  locals = record { few_locals = omega arith; names_differ = λ i j d lt within. absurd (omega arith) };
+  starts = record { within = λ k d lt. absurd (omega arith); starts_differ = λ i j d lt within. absurd (omega arith) };
+  arcs = record { few_arcs = omega arith; joins = λ k d lt. absurd (omega arith); ends_differ = λ i j d lt within. absurd (omega arith) };
+}
 
 -- the head, or the last line
 pub head_sound : (s : State) → IsSoundState s → IsSoundState (after s head_line)
 head_sound s h = record {
   few_roles = (let few = h.few_roles in omega arith);
+  starts = h.starts;
   few_kinds = (let few = h.few_kinds in omega arith);
   few_processes = h.few_processes;
   group = tt;
@@ -111,6 +149,7 @@ head_sound s h = record {
 pub done_sound : (s : State) → IsSoundState s → IsSoundState (after s done_line)
 done_sound s h = record {
   few_roles = (let few = h.few_roles in omega arith);
+  starts = h.starts;
   few_kinds = (let few = h.few_kinds in omega arith);
   few_processes = h.few_processes;
   group = tt;
@@ -120,12 +159,13 @@ done_sound s h = record {
 }
 
 -- a role is opened
-pub role_opens : (s : State) (name role_name : List ℕ) (names : List (List ℕ)) → IsSoundState s → IsFree (NameStands (role_names s.parts.roles) MAX_ROLES name) → names ≡ [] → IsSoundState (record { parts = s.parts; group = in_locals role_name names })
-role_opens s name role_name names sound free none = record {
+pub role_opens : (s : State) (name : List ℕ) → IsSoundState s → IsFree (NameStands (role_names s.parts.roles) MAX_ROLES name) → IsSoundState (after s (role_line name))
+role_opens s name sound free = record {
   few_roles = role_room s.parts.roles name free;
+  starts = sound.starts;
   few_kinds = (let h = sound.few_kinds in omega arith);
   few_processes = sound.few_processes;
-  group = no_locals names none;
+  group = none_sound name;
   kind_roles = tt;
   network = sound.network;
   few_edges = sound.few_edges;
@@ -138,6 +178,7 @@ role_within roles name there = let lt = number_within (role_names roles) name th
 pub kind_opens : (s : State) (name a b : List ℕ) → IsSoundState s → IsFree (KindStands s.parts.roles s.parts.kinds name a b) → IsSoundState (record { parts = s.parts; group = opened_kind s.parts.roles name a b })
 kind_opens s name a b sound free = record {
   few_roles = (let h = sound.few_roles in omega arith);
+  starts = sound.starts;
   few_kinds = kind_room s.parts.roles s.parts.kinds name a b free;
   few_processes = sound.few_processes;
   group = tt;
@@ -148,8 +189,9 @@ kind_opens s name a b sound free = record {
 
 -- the open role or kind is declared
 pub end_sound : (v : SpecParts) (g : Group) → IsSoundState (record { parts = v; group = g }) → MayStand g end_line → IsSoundState (after (record { parts = v; group = g }) end_line)
-end_sound v (in_arcs r) sound may = record {
+end_sound v (in_role r) sound may = record {
   few_roles = (let h = sound.few_roles in omega (arith, length-append v.roles (r ∷ [])));
+  starts = All-push HasStart v.roles r sound.starts may;
   few_kinds = sound.few_kinds;
   few_processes = sound.few_processes;
   group = tt;
@@ -159,6 +201,7 @@ end_sound v (in_arcs r) sound may = record {
 }
 end_sound v (in_kind k) sound may = record {
   few_roles = sound.few_roles;
+  starts = sound.starts;
   few_kinds = (let h = sound.few_kinds in omega (arith, length-append v.kinds (k ∷ [])));
   few_processes = sound.few_processes;
   group = tt;
@@ -168,23 +211,25 @@ end_sound v (in_kind k) sound may = record {
 }
 end_sound v before_head sound may = absurd may
 end_sound v among_roles sound may = absurd may
-end_sound v (in_locals n names) sound may = absurd may
 end_sound v among_kinds sound may = absurd may
 end_sound v among_processes sound may = absurd may
 end_sound v among_edges sound may = absurd may
 end_sound v after_done sound may = absurd may
 
 -- a process is declared
-pub process_sound : (s : State) (name r : List ℕ) → IsSoundState s → IsFree (ProcessStands s.parts.roles s.parts.processes name r) → IsSoundState (after s (process_line name r))
-process_sound s name r sound free =
-    let room = process_room s.parts.roles s.parts.processes name r free in
-    let within = role_within s.parts.roles r (contained (role_names s.parts.roles) r (λ h. free.free UnknownName (inl (refl, h)))) in record {
+pub process_sound : (s : State) (name r : List ℕ) (start : Option (List ℕ)) → IsSoundState s → IsFree (ProcessStands s.parts.roles s.parts.processes name r start) → IsSoundState (after s (process_line name r start))
+process_sound s name r start sound free =
+    let process = process_in s.parts.roles name r start in
+    let room = process_room s.parts.roles s.parts.processes name r start free in
+    let within = role_within s.parts.roles r (contained (role_names s.parts.roles) r (λ h. free.free UnknownName (inl (refl, h)))) in
+    let begins = begins_in (role_named s.parts.roles r) start (sound.starts process.role (role_at [] 0) within) (λ h. free.free UnknownName (inr (inl (refl, h)))) (λ h. free.free NotAStart (inr (inr (inr (refl, h))))) in record {
       few_roles = (let h = sound.few_roles in omega arith);
+      starts = sound.starts;
       few_kinds = (let h = sound.few_kinds in omega arith);
-      few_processes = omega (arith, room, length-append s.parts.processes (record { name = name; role = number_in (role_names s.parts.roles) r } ∷ []));
+      few_processes = omega (arith, room, length-append s.parts.processes (process ∷ []));
       group = tt;
       kind_roles = tt;
-      network = process_grown s.parts.roles (kind_ends s.parts.kinds) s.parts.processes (record { name = name; role = number_in (role_names s.parts.roles) r }) s.parts.edges sound.network room within sound.few_edges;
+      network = process_grown s.parts.roles (kind_ends s.parts.kinds) s.parts.processes process s.parts.edges sound.network room within begins sound.few_edges;
       few_edges = sound.few_edges;
     }
 
@@ -193,6 +238,7 @@ pub edge_sound : (s : State) (p q kind : List ℕ) → IsSoundState s → IsFree
 edge_sound s p q kind sound free =
     let fits = edge_fits s.parts.processes s.parts.kinds s.parts.edges p q kind free in record {
       few_roles = (let h = sound.few_roles in omega arith);
+      starts = sound.starts;
       few_kinds = (let h = sound.few_kinds in omega arith);
       few_processes = sound.few_processes;
       group = tt;

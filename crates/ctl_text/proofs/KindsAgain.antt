@@ -1,5 +1,5 @@
 -- The canonical lines of kinds are taken again.
-use Rattle.std.proofs.Common.{ℕ, suc, ◌≡◌, ◌<◌, ◌≤◌, inl, inr, List, [], ◌∷◌, ◌++◌, map, length, slice_index_or, sym, ap, ◌∙◌, arith, subst, refl, All, Contains, append_assoc, append-nil, length-append}
+use Rattle.std.proofs.Common.{ℕ, suc, ◌≡◌, ◌<◌, ◌≤◌, inl, inr, Option, List, [], ◌∷◌, ◌++◌, map, length, slice_index_or, sym, ap, ◌∙◌, arith, subst, refl, All, Contains, append_assoc, append-nil, length-append}
 use Rattle.std.proofs.lemmas.List.{length-map, map-append, get_or-map}
 use Rattle.std.proofs.lemmas.List.Elements.{Contains-get_or}
 use Rattle.std.specs.List.{flat_map}
@@ -18,14 +18,15 @@ use Rattle.ctl_text.specs.State.{State, Group, among_kinds, in_kind, MayStand}
 use Rattle.ctl_text.specs.Value.{role_names, kind_names, number_in}
 use Rattle.ctl_text.proofs.LinesTaken.{Goes, goes_further, item_goes, clause_goes}
 use Rattle.formula_text.proofs.RoleNames.{names_of_role}
-use Rattle.ctl_text.proofs.RolesAgain.{At, name_free, use_free, distinct_new, number_again}
+use Rattle.ctl_text.proofs.Named.{number_again}
+use Rattle.ctl_text.proofs.RolesAgain.{At, name_free, use_free, distinct_new}
 
 -- edges may stand there, or nothing more
 abbrev pub LetsEdges : Group → Type 0
 LetsEdges g = ((p q kind : List ℕ) → MayStand g (edge_line p q kind)) × MayStand g done_line
 
 abbrev pub LetsProcesses : Group → Type 0
-LetsProcesses g = ((name r : List ℕ) → MayStand g (process_line name r)) × LetsEdges g
+LetsProcesses g = ((name r : List ℕ) (start : Option (List ℕ)) → MayStand g (process_line name r start)) × LetsEdges g
 
 abbrev pub LetsKinds : Group → Type 0
 LetsKinds g = ((name a b : List ℕ) → MayStand g (kind_line name a b)) × LetsProcesses g
@@ -38,7 +39,7 @@ name_there f xs d k lt differ =
     (subst (Contains (map f xs)) there (Contains-get_or (map f xs) k [] within), ap (number_in (map f xs)) (sym there) ∙ number_again (map f xs) k differ within)
 
 pub role_there : (rs : List RoleParts) (k : ℕ) → k < length rs → Differ (role_names rs) → Contains (role_names rs) (role_at rs k).name × (number_in (role_names rs) (role_at rs k).name ≡ k)
-role_there rs k lt differ = name_there (λ r. r.name) rs (record { name = []; locals = []; start = 0; arcs = [] }) k lt differ
+role_there rs k lt differ = name_there (λ r. r.name) rs (record { name = []; locals = []; starts = []; arcs = [] }) k lt differ
 
 kind_free : (rs : List RoleParts) (ks : List PairSpec) (name a b : List ℕ) → Contains (role_names rs) a → Contains (role_names rs) b → (Contains (kind_names ks) name → ⊥) → length (kind_names ks) < MAX_KINDS → (cause : TextCause) → KindStands rs ks name a b cause → ⊥
 kind_free rs ks name a b one two fresh few cause (inl h) = use_free (role_names rs) a one cause h
@@ -52,7 +53,7 @@ abbrev Opened : List ℕ → ℕ → ℕ → List Form → Group
 Opened n p q clauses = in_kind (record { name = n; role_a = p; role_b = q; clauses = clauses })
 
 pub role_named : (rs : List RoleParts) (k : ℕ) → All IsNamedRole rs → k < length rs → IsNamedRole (role_at rs k)
-role_named rs k named lt = named k (record { name = []; locals = []; start = 0; arcs = [] }) lt
+role_named rs k named lt = named k (record { name = []; locals = []; starts = []; arcs = [] }) lt
 
 clauses_go : (rs : List RoleParts) (ks : List PairSpec) (n : List ℕ) (p q : ℕ) (front back : List Form) → IsNamedRole (role_at rs p) → IsNamedRole (role_at rs q) → All (IsReadable (role_at rs p).locals (role_at rs q).locals) back
     → Goes (At rs ks [] [] (Opened n p q front)) (map (require_text (role_at rs p).locals (role_at rs q).locals) back) (At rs ks [] [] (Opened n p q (front ++ back)))
@@ -88,7 +89,7 @@ kinds_go g rs ks (k ∷ back) tail t lets named differ each distinct few then =
     let same : (ks ++ k ∷ []) ++ back ≡ ks ++ k ∷ back = append_assoc ks (k ∷ []) back in
     let fresh = distinct_new (kind_names ks) k.name (kind_names back) (subst Differ (map-append (λ (k : PairSpec). k.name) ks (k ∷ back)) distinct) in
     let first = kind_goes g rs ks k lets named differ (each 0 k (omega arith)) fresh (omega (arith, length-append ks (k ∷ back), length-map ks (λ (k : PairSpec). k.name))) in
-    let more = kinds_go among_kinds rs (ks ++ k ∷ []) back tail t (λ name a b. tt, (λ name r. tt, (λ p q kind. tt, tt))) named differ (λ i d lt. each (suc i) d (omega arith)) (subst (λ (whole : List PairSpec). Differ (kind_names whole)) (sym same) distinct) (subst (λ (whole : List PairSpec). length whole ≤ MAX_KINDS) (sym same) few)
+    let more = kinds_go among_kinds rs (ks ++ k ∷ []) back tail t (λ name a b. tt, (λ name r start. tt, (λ p q kind. tt, tt))) named differ (λ i d lt. each (suc i) d (omega arith)) (subst (λ (whole : List PairSpec). Differ (kind_names whole)) (sym same) distinct) (subst (λ (whole : List PairSpec). length whole ≤ MAX_KINDS) (sym same) few)
     (λ h lets_h. subst (λ (whole : List PairSpec). Goes (At rs whole [] [] h) tail t) (sym same) (then h lets_h)) in
     subst (λ (lines : List (List ℕ)). Goes (At rs ks [] [] g) lines t) (sym (append_assoc (kind_lines rs k) (flat_map (kind_lines rs) back) tail))
     (goes_further (At rs ks [] [] g) (At rs (ks ++ k ∷ []) [] [] among_kinds) t (kind_lines rs k) (flat_map (kind_lines rs) back ++ tail) first more)

@@ -19,5 +19,6 @@ pub mod Options
 pub mod RolesAgain
 pub mod SaidTaken
 pub mod SpecTexts
+pub mod StartNames
 pub mod TextLaws
 pub mod ValueKept

@@ -144,7 +144,8 @@ item_words (arc_line p q true) other is = (omega arith, refl, (name_some p is.0,
 item_words (kind_line n a b) other is = (omega arith, refl, (name_some n is.0, name_seen n is.0, (name_some a is.1, name_seen a is.1, (name_some b is.2, name_seen b is.2, tt))))
 item_words (require_line words form) other is = absurd other
 item_words end_line other is = (omega arith, refl, tt)
-item_words (process_line n r) other is = (omega arith, refl, (name_some n is.0, name_seen n is.0, (name_some r is.1, name_seen r is.1, tt)))
+item_words (process_line n r None) other is = (omega arith, refl, (name_some n is.0, name_seen n is.0, (name_some r is.1, name_seen r is.1, tt)))
+item_words (process_line n r (Some s)) other is = (omega arith, refl, (name_some n is.0, name_seen n is.0, (name_some r is.1, name_seen r is.1, (name_some s is.2, name_seen s is.2, tt))))
 item_words (edge_line p q k) other is = (omega arith, refl, (name_some p is.0, name_seen p is.0, (name_some q is.1, name_seen q is.1, (name_some k is.2, name_seen k is.2, tt))))
 item_words done_line other is = (omega arith, refl, tt)
 
@@ -164,7 +165,8 @@ item_not_passed (arc_line p q true) h = omega (arith, h)
 item_not_passed (kind_line n a b) h = omega (arith, h)
 item_not_passed (require_line words form) h = omega (arith, h)
 item_not_passed end_line h = omega (arith, h)
-item_not_passed (process_line n r) h = omega (arith, h)
+item_not_passed (process_line n r None) h = omega (arith, h)
+item_not_passed (process_line n r (Some s)) h = omega (arith, h)
 item_not_passed (edge_line p q k) h = omega (arith, h)
 item_not_passed done_line h = omega (arith, h)
 
@@ -178,7 +180,8 @@ item_no_clause (arc_line p q true) other h = cc
 item_no_clause (kind_line n a b) other h = cc
 item_no_clause (require_line words form) other h = other
 item_no_clause end_line other h = cc
-item_no_clause (process_line n r) other h = let e = ap (λ w. get_or w 1 0) h in omega (arith, e)
+item_no_clause (process_line n r None) other h = let e = ap (λ w. get_or w 1 0) h in omega (arith, e)
+item_no_clause (process_line n r (Some s)) other h = let e = ap (λ w. get_or w 1 0) h in omega (arith, e)
 item_no_clause (edge_line p q k) other h = cc
 item_no_clause done_line other h = cc
 

@@ -1,11 +1,14 @@
 -- Elements found by their names.
-use Rattle.std.proofs.Common.{ℕ, ◌≡◌, ◌<◌, ◌↔◌, ◌⊎◌, inl, inr, true, false, IsTrue, List, [], ◌∷◌, Option, Some, None, length, get_or, map, position, Contains, refl, ◌∙◌}
+use Rattle.std.proofs.Common.{ℕ, ◌≡◌, ◌≢◌, ◌<◌, ◌↔◌, ◌⊎◌, inl, inr, true, false, IsTrue, List, [], ◌∷◌, Option, Some, None, length, get_or, map, position, AllPairs, Contains, refl, sym, arith, ◌∙◌}
+use Rattle.std.proofs.lemmas.Bool.{cases_lt}
 use Rattle.std.proofs.lemmas.List.{length-map, get_or_default}
+use Rattle.std.proofs.lemmas.List.Elements.{Contains-get_or}
 use Rattle.std.proofs.lemmas.List.Quantifiers.{position-Some}
 use Rattle.std.proofs.lemmas.Slice.Eq.{bytes_eq-Decides}
 use Rattle.std.specs.List.{position_or_len}
 use Rattle.std.specs.Option.{is_some, unwrap_or}
 use Rattle.std.specs.Str.{bytes_eq}
+use Rattle.pair_structure.specs.Parts.{name_at}
 use Rattle.ctl_text.specs.Value.{number_in}
 use Rattle.strict_text.proofs.Positions.{none_passes_at}
 
@@ -48,3 +51,17 @@ named_at names name there = elim (named names name (position (λ x. bytes_eq x n
 
 pub number_within : (names : List (List ℕ)) (name : List ℕ) → Contains names name → number_in names name < length names
 number_within names name there = elim (named names name (position (λ x. bytes_eq x name) names) refl) [ inl h ↦ h.2 | inr h ↦ absurd (h.0 there) ]
+
+-- the name at a number has that number again
+pub number_again : (names : List (List ℕ)) (k : ℕ) → AllPairs (λ (x y : List ℕ). x ≢ y) names → k < length names → number_in names (name_at names k) ≡ k
+number_again names k distinct lt =
+    let there = Contains-get_or names k [] lt in
+    let is = named_at names (get_or names k []) there in
+    let within = number_within names (get_or names k []) there in
+    elim (cases_lt (number_in names (get_or names k [])) k) [
+      | inl below ↦ absurd (distinct (number_in names (get_or names k [])) k [] below lt is)
+      | inr above ↦ elim (cases_lt k (number_in names (get_or names k []))) [
+        | inl over ↦ absurd (distinct k (number_in names (get_or names k [])) [] over within (sym is))
+        | inr under ↦ omega arith
+      ]
+    ]

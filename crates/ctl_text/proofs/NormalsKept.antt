@@ -41,7 +41,7 @@ kind_kept roles kinds normals k n are over one = record {
 
 -- a role that is there is the same where one more is declared
 pub same_role : (roles : List RoleParts) (r : RoleParts) (k : ℕ) → k < length roles → role_at roles k ≡ role_at (roles ++ r ∷ []) k
-same_role roles r k lt = sym (get_or_append_left roles (r ∷ []) (record { name = []; locals = []; start = 0; arcs = [] }) k lt)
+same_role roles r k lt = sym (get_or_append_left roles (r ∷ []) (record { name = []; locals = []; starts = []; arcs = [] }) k lt)
 
 same_conjuncts : (roles : List RoleParts) (r : RoleParts) (k : PairSpec) → IsOverRoles (length roles) k → conjuncts_of roles k ≡ conjuncts_of (roles ++ r ∷ []) k
 same_conjuncts roles r k over =

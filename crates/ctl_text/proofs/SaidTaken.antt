@@ -1,12 +1,12 @@
 -- What a line leaves that nothing stands against.
-use Rattle.std.proofs.Common.{ℕ, ◌≡◌, List, [], ◌∷◌, ◌++◌, refl, sym, ap, ◌∙◌, subst}
+use Rattle.std.proofs.Common.{ℕ, ◌≡◌, ◌<◌, length, Option, List, [], ◌∷◌, ◌++◌, refl, sym, ap, ◌∙◌, subst}
 use Rattle.interconnection.specs.declared.limits.TheConstants.{MAX_ROLES}
 use Rattle.pair_structure.specs.Role.{RoleParts}
 use Rattle.ctl_form.specs.Form.{Form}
 use Rattle.ctl_form.specs.declared.pair_spec.PairSpec.{PairSpec}
 use Rattle.text_cause.specs.Cause.{IsFree}
 use Rattle.ctl_text.specs.Item.{Said, head_line, role_line, kind_line, end_line, process_line, edge_line, done_line}
-use Rattle.ctl_text.specs.State.{State, Group, among_roles, in_locals, in_arcs, among_kinds, in_kind, after_done, opened_kind, after}
+use Rattle.ctl_text.specs.State.{State, Group, among_roles, in_role, among_kinds, in_kind, after_done, opened_kind, after}
 use Rattle.ctl_text.specs.Value.{SpecParts, role_names}
 use Rattle.ctl_text.specs.inside.Judged.{IsSaidTaken}
 use Rattle.ctl_text.specs.inside.LineCause.{LineBlocks, NameStands, RoleEndStands, KindStands, KindEndStands, ProcessStands, EdgeStands}
@@ -17,12 +17,12 @@ use Rattle.ctl_text.proofs.Kept.{head_sound, role_opens, kind_opens, end_sound, 
 pub said_taken : (s t : State) (item : Said) → t ≡ after s item → IsFree (LineBlocks s item) → IsSoundState (after s item) → IsSaidTaken s item t
 said_taken s t item next free sound = record { next = next; free = free; sound = subst IsSoundState (sym next) sound }
 
-pub role_taken : (s t : State) (name made : List ℕ) (names : List (List ℕ)) (roles : List RoleParts) → roles ≡ s.parts.roles → made ≡ name → names ≡ [] → t ≡ record { parts = s.parts; group = in_locals made names }
+pub role_taken : (s t : State) (name made : List ℕ) (r : RoleParts) (roles : List RoleParts) → roles ≡ s.parts.roles → made ≡ name → r ≡ record { name = made; locals = []; starts = []; arcs = [] } → t ≡ record { parts = s.parts; group = in_role r }
     → IsSoundState s → IsFree (NameStands (role_names roles) MAX_ROLES name) → IsSaidTaken s (role_line name) t
-role_taken s t name made names roles same is none next sound free =
+role_taken s t name made r roles same is new next sound free =
     let here : IsFree (NameStands (role_names s.parts.roles) MAX_ROLES name) = subst (λ rs. IsFree (NameStands (role_names rs) MAX_ROLES name)) same free in
-    let left : t ≡ after s (role_line name) = next ∙ (rw (is, none) refl) in
-    said_taken s t (role_line name) left here (role_opens s name name [] sound here refl)
+    let left : t ≡ after s (role_line name) = next ∙ (rw (new, is) refl) in
+    said_taken s t (role_line name) left here (role_opens s name sound here)
 
 pub kind_taken : (s t : State) (g : Group) (name a b : List ℕ) (roles : List RoleParts) (kinds : List PairSpec) → roles ≡ s.parts.roles → kinds ≡ s.parts.kinds → g ≡ opened_kind s.parts.roles name a b → t ≡ record { parts = s.parts; group = g }
     → IsSoundState s → IsFree (KindStands roles kinds name a b) → IsSaidTaken s (kind_line name a b) t
@@ -30,10 +30,10 @@ kind_taken s t g name a b roles kinds same also opens next sound free =
     let here : IsFree (KindStands s.parts.roles s.parts.kinds name a b) = subst (λ rs. IsFree (KindStands rs s.parts.kinds name a b)) same (subst (λ ks. IsFree (KindStands roles ks name a b)) also free) in
     said_taken s t (kind_line name a b) (next ∙ ap (λ (g : Group). record { parts = s.parts; group = g }) opens) here (kind_opens s name a b sound here)
 
-pub process_taken : (s t : State) (name r : List ℕ) (roles : List RoleParts) → roles ≡ s.parts.roles → t ≡ after s (process_line name r) → IsSoundState s → IsFree (ProcessStands roles s.parts.processes name r) → IsSaidTaken s (process_line name r) t
-process_taken s t name r roles same next sound free =
-    let here : IsFree (ProcessStands s.parts.roles s.parts.processes name r) = subst (λ rs. IsFree (ProcessStands rs s.parts.processes name r)) same free in
-    said_taken s t (process_line name r) next here (process_sound s name r sound here)
+pub process_taken : (s t : State) (name r : List ℕ) (start : Option (List ℕ)) (roles : List RoleParts) → roles ≡ s.parts.roles → t ≡ after s (process_line name r start) → IsSoundState s → IsFree (ProcessStands roles s.parts.processes name r start) → IsSaidTaken s (process_line name r start) t
+process_taken s t name r start roles same next sound free =
+    let here : IsFree (ProcessStands s.parts.roles s.parts.processes name r start) = subst (λ rs. IsFree (ProcessStands rs s.parts.processes name r start)) same free in
+    said_taken s t (process_line name r start) next here (process_sound s name r start sound here)
 
 pub edge_taken : (s t : State) (p q kind : List ℕ) (kinds : List PairSpec) → kinds ≡ s.parts.kinds → t ≡ after s (edge_line p q kind) → IsSoundState s → IsFree (EdgeStands s.parts.processes kinds s.parts.edges p q kind) → IsSaidTaken s (edge_line p q kind) t
 edge_taken s t p q kind kinds same next sound free =
@@ -48,11 +48,11 @@ pub done_taken : (s t : State) → t ≡ record { parts = s.parts; group = after
 done_taken s t next sound = said_taken s t done_line next (record { free = λ cause h. h }) (done_sound s sound)
 
 -- the end of a role
-pub role_ended : (v : SpecParts) (r : RoleParts) (more : PairsParts) → IsSoundState (record { parts = v; group = in_arcs r }) → IsFree (RoleEndStands r.locals r.arcs) → more ≡ record { roles = v.roles ++ r ∷ []; kinds = v.kinds }
-    → IsSaidTaken (record { parts = v; group = in_arcs r }) end_line (record { parts = record { roles = more.roles; kinds = more.kinds; processes = v.processes; edges = v.edges }; group = among_roles })
-role_ended v r more sound free grown =
-    said_taken (record { parts = v; group = in_arcs r }) _ end_line
-    (ap (λ (p : PairsParts). record { parts = record { roles = p.roles; kinds = p.kinds; processes = v.processes; edges = v.edges }; group = among_roles }) grown) free (end_sound v (in_arcs r) sound tt)
+pub role_ended : (v : SpecParts) (r : RoleParts) (more : PairsParts) → IsSoundState (record { parts = v; group = in_role r }) → 0 < length r.starts → IsFree (RoleEndStands r.locals r.arcs) → more ≡ record { roles = v.roles ++ r ∷ []; kinds = v.kinds }
+    → IsSaidTaken (record { parts = v; group = in_role r }) end_line (record { parts = record { roles = more.roles; kinds = more.kinds; processes = v.processes; edges = v.edges }; group = among_roles })
+role_ended v r more sound begins free grown =
+    said_taken (record { parts = v; group = in_role r }) _ end_line
+    (ap (λ (p : PairsParts). record { parts = record { roles = p.roles; kinds = p.kinds; processes = v.processes; edges = v.edges }; group = among_roles }) grown) free (end_sound v (in_role r) sound begins)
 
 abbrev pub with_clauses : List ℕ → ℕ → ℕ → List Form → PairSpec
 with_clauses name a b forms = record { name = name; role_a = a; role_b = b; clauses = forms }

@@ -4,15 +4,15 @@ use Rattle.std.proofs.lemmas.Bool.{cases_order}
 use Rattle.pair_structure.specs.declared.side.LocalArc.{LocalArc}
 use Rattle.interconnection.specs.declared.parts.Edge.{Edge}
 use Rattle.text_cause.specs.declared.cause.TextCause.{TextCause}
-use Rattle.text_cause.specs.declared.cause.TextCause.TheVariants.{NotText, BadHead, Long, BadLine, UnknownName, Twice, SelfArc, NoArc, TooMany, ClosureOver, SelfEdge, EdgeTwice, DegreeOver, RoleMismatch}
+use Rattle.text_cause.specs.declared.cause.TextCause.TheVariants.{NotText, BadHead, Long, BadLine, UnknownName, Twice, SelfArc, NoArc, TooMany, ClosureOver, SelfEdge, EdgeTwice, DegreeOver, RoleMismatch, NotAStart}
 use Rattle.text_cause.specs.Cause.{IsLowest, Row, Or, NumberRow}
 use Rattle.text_cause.specs.inside.Laws.{IsLawful}
 use Rattle.text_cause.proofs.Lowest.{From, OneEach, from_row, from_or, from_numbered, lowest_once, one_each_row, one_each_or, one_each_above, one_each_numbered, to_numbered}
-use Rattle.ctl_text.specs.Cause.{Blocks, Crowds, DeclaresAgain, GoesOver, HasLargeClosure, HasOtherRoles, IsFirstCrowded, IsFirstStuck, IsLongLine, IsLoop, IsNoHead, JoinsAgain, JoinsItself, Leaves, LeavesStuck, MaySay, SaysNothing, Stands, Takes, UsesUnknown, WordsStand}
+use Rattle.ctl_text.specs.Cause.{BeginsElsewhere, Blocks, Crowds, DeclaresAgain, GoesOver, HasLargeClosure, HasOtherRoles, IsFirstCrowded, IsFirstStuck, IsLongLine, IsLoop, IsNoHead, JoinsAgain, JoinsItself, Leaves, LeavesStuck, MaySay, SaysNothing, Stands, Takes, UsesUnknown, WordsStand}
 use Rattle.ctl_text.specs.Item.{Said, role_line, local_line, arc_line, kind_line, end_line, process_line, edge_line}
 use Rattle.strict_text.specs.Pieces.{loose_words_of}
 use Rattle.ctl_text.specs.Lines.{IsText, ArePassed}
-use Rattle.ctl_text.specs.State.{State, Group, before_head, in_locals, in_arcs, after_done, after}
+use Rattle.ctl_text.specs.State.{State, Group, before_head, in_role, after_done, after}
 use Rattle.ctl_text.specs.Text.{EndStands, specifications}
 use Rattle.ctl_text.specs.Value.{SpecParts}
 use Rattle.ctl_text.proofs.ItemLaws.{says_once}
@@ -37,15 +37,15 @@ first_stuck_once names made k l a b = elim (cases_order k l) [
 ]
 
 stuck_once : (item : Said) (g : Group) (k l : ℕ) → LeavesStuck item g k → LeavesStuck item g l → k ≡ l
-stuck_once end_line (in_arcs r) k l a b = first_stuck_once r.locals r.arcs k l a b
+stuck_once end_line (in_role r) k l a b = first_stuck_once r.locals r.arcs k l a b
 stuck_once item g k l a b = absurd a
 
 limit_once : (item : Said) (v : SpecParts) (g : Group) (k l : ℕ) → GoesOver item v g k → GoesOver item v g l → k ≡ l
 limit_once (role_line name) v g k l a b = a.0 ∙ sym b.0
-limit_once (local_line n) v (in_locals name names) k l a b = a.0 ∙ sym b.0
-limit_once (arc_line p q free) v (in_arcs r) k l a b = a.0 ∙ sym b.0
+limit_once (local_line n) v (in_role r) k l a b = a.0 ∙ sym b.0
+limit_once (arc_line p q free) v (in_role r) k l a b = a.0 ∙ sym b.0
 limit_once (kind_line name x y) v g k l a b = a.0 ∙ sym b.0
-limit_once (process_line name r) v g k l a b = a.0 ∙ sym b.0
+limit_once (process_line name r start) v g k l a b = a.0 ∙ sym b.0
 limit_once item v g k l a b = absurd a
 
 first_crowded_once : (edges : List Edge) (p q k l : ℕ) → IsFirstCrowded edges p q k → IsFirstCrowded edges p q l → k ≡ l
@@ -57,8 +57,11 @@ crowded_once item v k l a b = absurd a
 
 -- of each number one cause stands at most against what a line says; none comes above an unknown name
 module _ (s : State) (item : Said) where
+  abbrev Elsewhere : TextCause → Type 0
+  Elsewhere = Row NotAStart (BeginsElsewhere item s.parts)
+
   abbrev Mismatch : TextCause → Type 0
-  Mismatch = Row RoleMismatch (HasOtherRoles item s.parts)
+  Mismatch = Or (Row RoleMismatch (HasOtherRoles item s.parts)) Elsewhere
 
   abbrev Degree : TextCause → Type 0
   Degree = Or (NumberRow DegreeOver (Crowds item s.parts)) Mismatch
@@ -84,8 +87,14 @@ module _ (s : State) (item : Said) where
   abbrev Declared : TextCause → Type 0
   Declared = Or (Row Twice (DeclaresAgain item s.parts s.group)) Itself
 
+  from_elsewhere : (n : ℕ) → n ≤ 18 → From n Elsewhere
+  from_elsewhere n le = from_row n NotAStart (BeginsElsewhere item s.parts) le
+
+  from_mismatch : (n : ℕ) → n ≤ 14 → From n Mismatch
+  from_mismatch n le = from_or n (Row RoleMismatch (HasOtherRoles item s.parts)) Elsewhere (from_row n RoleMismatch (HasOtherRoles item s.parts) le) (from_elsewhere n (omega (arith, le)))
+
   from_degree : (n : ℕ) → n ≤ 13 → From n Degree
-  from_degree n le = from_or n (NumberRow DegreeOver (Crowds item s.parts)) Mismatch (from_numbered n DegreeOver (Crowds item s.parts) (λ k. le)) (from_row n RoleMismatch (HasOtherRoles item s.parts) (omega (arith, le)))
+  from_degree n le = from_or n (NumberRow DegreeOver (Crowds item s.parts)) Mismatch (from_numbered n DegreeOver (Crowds item s.parts) (λ k. le)) (from_mismatch n (omega (arith, le)))
 
   from_again : (n : ℕ) → n ≤ 12 → From n Again
   from_again n le = from_or n (Row EdgeTwice (JoinsAgain item s.parts)) Degree (from_row n EdgeTwice (JoinsAgain item s.parts) le) (from_degree n (omega (arith, le)))
@@ -113,8 +122,9 @@ module _ (s : State) (item : Said) where
 
   one_degree : OneEach Degree
   one_degree =
-      one_each_or 13 (NumberRow DegreeOver (Crowds item s.parts)) Mismatch (to_numbered 13 DegreeOver (Crowds item s.parts) (λ k. omega arith)) (from_row 14 RoleMismatch (HasOtherRoles item s.parts) (omega arith))
-      (one_each_numbered DegreeOver (Crowds item s.parts) (crowded_once item s.parts)) (one_each_row RoleMismatch (HasOtherRoles item s.parts))
+      one_each_or 13 (NumberRow DegreeOver (Crowds item s.parts)) Mismatch (to_numbered 13 DegreeOver (Crowds item s.parts) (λ k. omega arith)) (from_mismatch 14 (omega arith))
+      (one_each_numbered DegreeOver (Crowds item s.parts) (crowded_once item s.parts))
+      (one_each_above RoleMismatch (HasOtherRoles item s.parts) Elsewhere (from_elsewhere 15 (omega arith)) (one_each_row NotAStart (BeginsElsewhere item s.parts)))
 
   one_closure : OneEach Closure
   one_closure =

@@ -1,6 +1,6 @@
 -- Each value that bytes are a text of is sound: what the lines so far declare is, and each line that is taken keeps it so.
-use Rattle.std.proofs.Common.{ℕ, ◌≡◌, ◌≢◌, ◌<◌, inl, inr, Bool, true, false, List, [], ◌∷◌, ◌++◌, length, get_or, map, All, Contains, refl, sym, ◌∙◌, subst, arith, length-append}
-use Rattle.std.proofs.lemmas.List.{get_or_append_left, get_or_default, map-append}
+use Rattle.std.proofs.Common.{ℕ, ◌≡◌, ◌≢◌, ◌<◌, inl, inr, Bool, true, false, Option, List, [], ◌∷◌, ◌++◌, length, get_or, map, All, Contains, refl, sym, ◌∙◌, subst, arith, length-append}
+use Rattle.std.proofs.lemmas.List.{get_or_default, map-append}
 use Rattle.std.proofs.lemmas.List.Elements.{All-push}
 use Rattle.std.proofs.lemmas.List.Quantifiers.{all_pairs_push}
 use Rattle.pair_structure.specs.Parts.{Names, role_at}
@@ -20,16 +20,17 @@ use Rattle.formula_text.specs.Long.{IsLong}
 use Rattle.ctl_text.specs.Required.{tokens_in, SpellsOver, AreKnownOver, IsClosureOver}
 use Rattle.ctl_text.specs.inside.Sound.{IsSoundState}
 use Rattle.ctl_text.specs.SoundValue.{Differ, IsNamedRole, IsReadable, IsNamedKind, IsNamedProcess, IsOverRoles, IsSoundValue}
-use Rattle.ctl_text.specs.State.{Group, in_locals, in_arcs, in_kind, State, first_state, MayStand, after, arc_in}
+use Rattle.ctl_text.specs.State.{Group, in_role, in_kind, State, first_state, MayStand, after, arc_in, process_in}
 use Rattle.text_cause.specs.Grammar.{StandsFor}
 use Rattle.ctl_text.specs.Text.{specifications, IsSpecText}
 use Rattle.ctl_text.specs.Value.{SpecParts, role_names, kind_names, process_names, number_in}
 use Rattle.formula_text.proofs.ClausesOver.{spelled_over}
 use Rattle.ctl_text.proofs.ByCause.{free_by_line}
 use Rattle.ctl_text.proofs.GraphKept.{none_declared}
-use Rattle.ctl_text.proofs.Kept.{locals_more, arcs_more, role_made, head_sound, done_sound, role_opens, kind_opens, end_sound, process_sound, edge_sound, role_within}
+use Rattle.ctl_text.proofs.Kept.{local_sound, starts_more, arcs_more, role_made, head_sound, done_sound, role_opens, kind_opens, end_sound, process_sound, edge_sound, role_within}
 use Rattle.ctl_text.proofs.KindsAgain.{role_named}
-use Rattle.ctl_text.proofs.Named.{contained, number_within}
+use Rattle.ctl_text.proofs.Named.{contained}
+use Rattle.ctl_text.proofs.NormalsKept.{same_role}
 use Rattle.formula_text.proofs.RoleNames.{names_of_role}
 use Rattle.formula_text.proofs.Weights.{canonical_short}
 
@@ -38,8 +39,7 @@ At v g = record { parts = v; group = g }
 
 -- the names of an open role or kind are names, its own is new, and its clauses are readable
 abbrev IsOpen : SpecParts → Group → Type 0
-IsOpen v (in_locals name names) = IsName name × (Contains (role_names v.roles) name → ⊥) × All IsName names
-IsOpen v (in_arcs r) = IsName r.name × (Contains (role_names v.roles) r.name → ⊥) × All IsName r.locals
+IsOpen v (in_role r) = IsName r.name × (Contains (role_names v.roles) r.name → ⊥) × All IsName r.locals
 IsOpen v (in_kind k) = IsName k.name × (Contains (kind_names v.kinds) k.name → ⊥) × All (IsReadable (role_at v.roles k.role_a).locals (role_at v.roles k.role_b).locals) k.clauses
 IsOpen v g = Unit {0}
 
@@ -65,28 +65,30 @@ differ_more : (names : List (List ℕ)) (name : List ℕ) → Differ names → (
 differ_more names name differ fresh = all_pairs_push (λ x y. x ≢ y) names name differ (λ k d lt same. fresh (k, lt, get_or_default names k name d lt ∙ same))
 
 local_kept : (v : SpecParts) (g : Group) (n : List ℕ) → Keeps v g → MayStand g (local_line n) → IsFree (LineBlocks (At v g) (local_line n)) → IsName n → Keeps (after (At v g) (local_line n)).parts (after (At v g) (local_line n)).group
-local_kept v (in_locals name names) n h may free spelled = record {
+local_kept v (in_role r) n h may free spelled = record {
   state = record {
     few_roles = h.state.few_roles;
+    starts = h.state.starts;
     few_kinds = h.state.few_kinds;
     few_processes = h.state.few_processes;
-    group = locals_more names n h.state.group free;
+    group = local_sound r n h.state.group free;
     kind_roles = tt;
     network = h.state.network;
     few_edges = h.state.few_edges;
   };
   named = h.named;
-  opened = (h.opened.0, h.opened.1, All-push IsName names n h.opened.2 spelled);
+  opened = (h.opened.0, h.opened.1, All-push IsName r.locals n h.opened.2 spelled);
 }
 local_kept v g n h may free spelled = absurd may
 
 start_kept : (v : SpecParts) (g : Group) (n : List ℕ) → Keeps v g → MayStand g (start_line n) → IsFree (LineBlocks (At v g) (start_line n)) → Keeps (after (At v g) (start_line n)).parts (after (At v g) (start_line n)).group
-start_kept v (in_locals name names) n h may free = record {
+start_kept v (in_role r) n h may free = record {
   state = record {
     few_roles = h.state.few_roles;
+    starts = h.state.starts;
     few_kinds = h.state.few_kinds;
     few_processes = h.state.few_processes;
-    group = (h.state.group, number_within names n (contained names n (λ unknown. free.free UnknownName (refl, unknown))), record { few_arcs = omega arith; joins = λ k d lt. absurd (omega arith); ends_differ = λ i j d lt within. absurd (omega arith) });
+    group = record { locals = h.state.group.locals; starts = starts_more r.locals r.starts n (number_in r.locals n) h.state.group.starts free refl; arcs = h.state.group.arcs };
     kind_roles = tt;
     network = h.state.network;
     few_edges = h.state.few_edges;
@@ -97,21 +99,20 @@ start_kept v (in_locals name names) n h may free = record {
 start_kept v g n h may free = absurd may
 
 arc_kept : (v : SpecParts) (g : Group) (p q : List ℕ) (f : Bool) → Keeps v g → MayStand g (arc_line p q f) → IsFree (LineBlocks (At v g) (arc_line p q f)) → Keeps (after (At v g) (arc_line p q f)).parts (after (At v g) (arc_line p q f)).group
-arc_kept v (in_arcs r) p q f h may free =
-    let from_in = number_within r.locals p (contained r.locals p (λ unknown. free.free UnknownName (inl (refl, unknown)))) in
-    let to_in = number_within r.locals q (contained r.locals q (λ unknown. free.free UnknownName (inr (inl (refl, unknown))))) in record {
-      state = record {
-        few_roles = h.state.few_roles;
-        few_kinds = h.state.few_kinds;
-        few_processes = h.state.few_processes;
-        group = (h.state.group.0, h.state.group.1, arcs_more r.locals r.arcs p q (arc_in r.locals p q f) h.state.group.2 free refl refl from_in to_in);
-        kind_roles = tt;
-        network = h.state.network;
-        few_edges = h.state.few_edges;
-      };
-      named = h.named;
-      opened = h.opened;
-    }
+arc_kept v (in_role r) p q f h may free = record {
+  state = record {
+    few_roles = h.state.few_roles;
+    starts = h.state.starts;
+    few_kinds = h.state.few_kinds;
+    few_processes = h.state.few_processes;
+    group = record { locals = h.state.group.locals; starts = h.state.group.starts; arcs = arcs_more r.locals r.arcs p q (arc_in r.locals p q f) h.state.group.arcs free refl refl };
+    kind_roles = tt;
+    network = h.state.network;
+    few_edges = h.state.few_edges;
+  };
+  named = h.named;
+  opened = h.opened;
+}
 arc_kept v g p q f h may free = absurd may
 
 -- a clause that is taken is over the two roles' local states, and so short that its canonical text is taken too
@@ -132,6 +133,7 @@ clause_kept : (v : SpecParts) (g : Group) (words : List (List ℕ)) (form : Form
 clause_kept v (in_kind k) words form h may free spells short = record {
   state = record {
     few_roles = h.state.few_roles;
+    starts = h.state.starts;
     few_kinds = h.state.few_kinds;
     few_processes = h.state.few_processes;
     group = tt;
@@ -151,9 +153,6 @@ clause_kept v (in_kind k) words form h may free spells short = record {
 clause_kept v g words form h may free spells short = absurd may
 
 -- a kind over two roles is over them where one more is declared
-same_role : (roles : List RoleParts) (r : RoleParts) (k : ℕ) → k < length roles → role_at roles k ≡ role_at (roles ++ r ∷ []) k
-same_role roles r k lt = sym (get_or_append_left roles (r ∷ []) (record { name = []; locals = []; start = 0; arcs = [] }) k lt)
-
 kind_wider : (roles : List RoleParts) (r : RoleParts) (k : PairSpec) → IsNamedKind roles k → IsNamedKind (roles ++ r ∷ []) k
 kind_wider roles r k h =
     let a = same_role roles r k.role_a h.role_a in let b = same_role roles r k.role_b h.role_b in record {
@@ -168,9 +167,9 @@ names_more : {X : Type 0} (f : X → List ℕ) (xs : List X) (x : X) → Differ 
 names_more f xs x differ fresh = subst Differ (sym (map-append f xs (x ∷ []))) (differ_more (map f xs) (f x) differ fresh)
 
 end_kept : (v : SpecParts) (g : Group) → Keeps v g → MayStand g end_line → IsFree (LineBlocks (At v g) end_line) → Keeps (after (At v g) end_line).parts (after (At v g) end_line).group
-end_kept v (in_arcs r) h may free =
-    let role : IsNamedRole r = record { name = h.opened.0; locals = h.opened.2; role = role_made r.locals r.start r.arcs h.state.group.0 h.state.group.1 h.state.group.2 free } in record {
-      state = end_sound v (in_arcs r) h.state may;
+end_kept v (in_role r) h may free =
+    let role : IsNamedRole r = record { name = h.opened.0; locals = h.opened.2; role = role_made r h.state.group may free } in record {
+      state = end_sound v (in_role r) h.state may;
       named = record {
         roles = All-push IsNamedRole v.roles r h.named.roles role;
         roles_differ = names_more (λ (r : RoleParts). r.name) v.roles r h.named.roles_differ h.opened.1;
@@ -196,18 +195,18 @@ end_kept v (in_kind k) h may free =
     }
 end_kept v g h may free = absurd may
 
-process_kept : (v : SpecParts) (g : Group) (name r : List ℕ) → Keeps v g → IsFree (ProcessStands v.roles v.processes name r) → IsName name → Keeps (after (At v g) (process_line name r)).parts (after (At v g) (process_line name r)).group
-process_kept v g name r h free spelled =
-    let p : Process = record { name = name; role = number_in (role_names v.roles) r } in
+process_kept : (v : SpecParts) (g : Group) (name r : List ℕ) (start : Option (List ℕ)) → Keeps v g → IsFree (ProcessStands v.roles v.processes name r start) → IsName name → Keeps (after (At v g) (process_line name r start)).parts (after (At v g) (process_line name r start)).group
+process_kept v g name r start h free spelled =
+    let p = process_in v.roles name r start in
     let within = role_within v.roles r (contained (role_names v.roles) r (λ unknown. free.free UnknownName (inl (refl, unknown)))) in record {
-      state = process_sound (At v g) name r h.state free;
+      state = process_sound (At v g) name r start h.state free;
       named = record {
         roles = h.named.roles;
         roles_differ = h.named.roles_differ;
         kinds = h.named.kinds;
         kinds_differ = h.named.kinds_differ;
         processes = All-push (IsNamedProcess (length v.roles)) v.processes p h.named.processes (record { name = spelled; role = within });
-        processes_differ = names_more (λ (p : Process). p.name) v.processes p h.named.processes_differ (λ there. free.free Twice (inr (inl (refl, there))));
+        processes_differ = names_more (λ (p : Process). p.name) v.processes p h.named.processes_differ (λ there. free.free Twice (inr (inr (inl (inl (refl, there))))));
       };
       opened = tt;
     }
@@ -216,7 +215,7 @@ process_kept v g name r h free spelled =
 said_kept : (v : SpecParts) (g : Group) (item : Said) → Keeps v g → MayStand g item → IsFree (LineBlocks (At v g) item) → IsSpelled item → IsClauseSpelled item v.roles g → (IsLongLine (words_for item) → ⊥) → Keeps (after (At v g) item).parts (after (At v g) item).group
 said_kept v g head_line h may free spelled spells short = record { state = head_sound (At v g) h.state; named = h.named; opened = tt }
 said_kept v g (role_line name) h may free spelled spells short =
-    record { state = role_opens (At v g) name name [] h.state free refl; named = h.named; opened = (spelled, λ there. free.free Twice (inl (refl, there)), none_named) }
+    record { state = role_opens (At v g) name h.state free; named = h.named; opened = (spelled, λ there. free.free Twice (inl (refl, there)), none_named) }
 said_kept v g (local_line n) h may free spelled spells short = local_kept v g n h may free spelled
 said_kept v g (start_line n) h may free spelled spells short = start_kept v g n h may free
 said_kept v g (arc_line p q f) h may free spelled spells short = arc_kept v g p q f h may free
@@ -224,7 +223,7 @@ said_kept v g (kind_line name a b) h may free spelled spells short =
     record { state = kind_opens (At v g) name a b h.state free; named = h.named; opened = (spelled.0, λ there. free.free Twice (inr (inr (inl (refl, there)))), λ k d lt. absurd (omega arith)) }
 said_kept v g (require_line words form) h may free spelled spells short = clause_kept v g words form h may free spells (λ long. short (refl, long))
 said_kept v g end_line h may free spelled spells short = end_kept v g h may free
-said_kept v g (process_line name r) h may free spelled spells short = process_kept v g name r h free spelled.0
+said_kept v g (process_line name r start) h may free spelled spells short = process_kept v g name r start h free spelled.0
 said_kept v g (edge_line p q kind) h may free spelled spells short = record {
   state = edge_sound (At v g) p q kind h.state free;
   named = record { roles = h.named.roles; roles_differ = h.named.roles_differ; kinds = h.named.kinds; kinds_differ = h.named.kinds_differ; processes = h.named.processes; processes_differ = h.named.processes_differ };
@@ -260,7 +259,7 @@ stand s (line ∷ lines) v (t, takes, rest) h = stand t lines v rest (taken s li
 
 nothing : KeepsIt first_state
 nothing = record {
-  state = record { few_roles = omega arith; few_kinds = omega arith; few_processes = omega arith; group = tt; kind_roles = tt; network = none_declared; few_edges = λ k. omega arith };
+  state = record { few_roles = omega arith; starts = λ k d lt. absurd (omega arith); few_kinds = omega arith; few_processes = omega arith; group = tt; kind_roles = tt; network = none_declared; few_edges = λ k. omega arith };
   named = record {
     roles = λ k d lt. absurd (omega arith);
     roles_differ = λ i j d lt within. absurd (omega arith);

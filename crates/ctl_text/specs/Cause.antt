@@ -1,5 +1,5 @@
 -- Why a line is refused: of each cause, where it stands, by the kinds of lines.
-use Rattle.std.specs.Prelude.{ℕ, ◌≡◌, ◌≢◌, ◌<◌, ◌≤◌, ◌⊎◌, List, [], ◌∷◌, codes, length, Contains}
+use Rattle.std.specs.Prelude.{ℕ, ◌≡◌, ◌≢◌, ◌<◌, ◌≤◌, ◌⊎◌, Option, Some, None, List, [], ◌∷◌, codes, length, Contains}
 use Rattle.pair_structure.specs.declared.limits.TheConstants.{MAX_ARCS, MAX_LOCALS}
 use Rattle.interconnection.specs.declared.limits.TheConstants.{MAX_KINDS, MAX_NEIGHBOURS, MAX_PROCESSES, MAX_ROLES}
 use Rattle.pair_structure.specs.declared.side.LocalArc.{LocalArc}
@@ -12,13 +12,13 @@ use Rattle.interconnection.specs.Graph.{degree_of}
 use Rattle.formula_text.specs.Long.{IsLong}
 use Rattle.text_cause.specs.Cause.{IsFree}
 use Rattle.text_cause.specs.declared.cause.TextCause.{TextCause}
-use Rattle.text_cause.specs.declared.cause.TextCause.TheVariants.{NotText, BadHead, Long, BadLine, UnknownName, Twice, SelfArc, NoArc, TooMany, ClosureOver, SelfEdge, EdgeTwice, DegreeOver, RoleMismatch}
+use Rattle.text_cause.specs.declared.cause.TextCause.TheVariants.{NotText, BadHead, Long, BadLine, UnknownName, Twice, SelfArc, NoArc, TooMany, ClosureOver, SelfEdge, EdgeTwice, DegreeOver, RoleMismatch, NotAStart}
 use Rattle.ctl_text.specs.Required.{tokens_in, SpellsOver, AreKnownOver, IsClosureOver}
 use Rattle.strict_text.specs.Pieces.{loose_words_of}
 use Rattle.ctl_text.specs.Lines.{IsText, ArePassed}
 use Rattle.ctl_text.specs.Item.{Said, head_line, role_line, local_line, start_line, arc_line, kind_line, require_line, end_line, process_line, edge_line, words_for, Says}
-use Rattle.ctl_text.specs.Value.{SpecParts, role_names, kind_names, process_names, number_in, AreJoined, kind_at, process_at}
-use Rattle.ctl_text.specs.State.{Group, before_head, in_locals, in_arcs, in_kind, State, MayStand, after}
+use Rattle.ctl_text.specs.Value.{SpecParts, role_names, kind_names, process_names, number_in, AreJoined, kind_at, process_at, role_named}
+use Rattle.ctl_text.specs.State.{Group, before_head, in_role, in_kind, State, MayStand, after}
 
 -- UnknownName: a name that is used is not declared above
 abbrev pub IsUnknown : List (List ℕ) → List ℕ → Type 0
@@ -28,27 +28,33 @@ IsUnknown names name = Contains names name → ⊥
 abbrev pub UseStands : List (List ℕ) → List ℕ → TextCause → Type 0
 UseStands names name cause = (cause ≡ UnknownName) × (Contains names name → ⊥)
 
+-- the local state where a process is to begin is named, and is none of the role's
+abbrev pub IsUnknownStart : RoleParts → Option (List ℕ) → Type 0
+IsUnknownStart r None = ⊥
+IsUnknownStart r (Some name) = IsUnknown r.locals name
+
 abbrev pub UsesUnknown : Said → SpecParts → Group → Type 0
-UsesUnknown (start_line n) v (in_locals name names) = IsUnknown names n
-UsesUnknown (arc_line p q free) v (in_arcs r) = IsUnknown r.locals p ⊎ IsUnknown r.locals q
+UsesUnknown (start_line n) v (in_role r) = IsUnknown r.locals n
+UsesUnknown (arc_line p q free) v (in_role r) = IsUnknown r.locals p ⊎ IsUnknown r.locals q
 UsesUnknown (kind_line name a b) v group = IsUnknown (role_names v.roles) a ⊎ IsUnknown (role_names v.roles) b
 UsesUnknown (require_line words form) v (in_kind k) = AreKnownOver (role_at v.roles k.role_a).locals (role_at v.roles k.role_b).locals (tokens_in words) → ⊥
-UsesUnknown (process_line name r) v group = IsUnknown (role_names v.roles) r
+UsesUnknown (process_line name r start) v group = IsUnknown (role_names v.roles) r ⊎ IsUnknownStart (role_named v.roles r) start
 UsesUnknown (edge_line p q kind) v group = IsUnknown (process_names v.processes) p ⊎ (IsUnknown (process_names v.processes) q ⊎ IsUnknown (kind_names v.kinds) kind)
 UsesUnknown item v group = ⊥
 
--- Twice: a name that its name space has, or an arc that the role has, is declared again
+-- Twice: a name that its name space has, or a start or an arc that the role has, is declared again
 abbrev pub DeclaresAgain : Said → SpecParts → Group → Type 0
 DeclaresAgain (role_line name) v group = Contains (role_names v.roles) name
-DeclaresAgain (local_line n) v (in_locals name names) = Contains names n
-DeclaresAgain (arc_line p q free) v (in_arcs r) = Contains r.locals p × Contains r.locals q × HasArc r.arcs (number_in r.locals p) (number_in r.locals q)
+DeclaresAgain (local_line n) v (in_role r) = Contains r.locals n
+DeclaresAgain (start_line n) v (in_role r) = Contains r.locals n × Contains r.starts (number_in r.locals n)
+DeclaresAgain (arc_line p q free) v (in_role r) = Contains r.locals p × Contains r.locals q × HasArc r.arcs (number_in r.locals p) (number_in r.locals q)
 DeclaresAgain (kind_line name a b) v group = Contains (kind_names v.kinds) name
-DeclaresAgain (process_line name r) v group = Contains (process_names v.processes) name
+DeclaresAgain (process_line name r start) v group = Contains (process_names v.processes) name
 DeclaresAgain item v group = ⊥
 
 -- SelfArc: an arc from a local state to itself
 abbrev pub JoinsItself : Said → Group → Type 0
-JoinsItself (arc_line p q free) (in_arcs r) = Contains r.locals p × (p ≡ q)
+JoinsItself (arc_line p q free) (in_role r) = Contains r.locals p × (p ≡ q)
 JoinsItself item group = ⊥
 
 -- no arc leaves the local state, and one leaves each before it
@@ -59,16 +65,16 @@ pub record IsFirstStuck (names : List (List ℕ)) (made : List LocalArc) (p : �
 
 -- NoArc: the end of a role in which no arc leaves this local state, the first such
 abbrev pub LeavesStuck : Said → Group → ℕ → Type 0
-LeavesStuck end_line (in_arcs r) p = IsFirstStuck r.locals r.arcs p
+LeavesStuck end_line (in_role r) p = IsFirstStuck r.locals r.arcs p
 LeavesStuck item group p = ⊥
 
 -- TooMany: one more than so many roles, local states, arcs, kinds or processes
 abbrev pub GoesOver : Said → SpecParts → Group → ℕ → Type 0
 GoesOver (role_line name) v group limit = (limit ≡ MAX_ROLES) × (MAX_ROLES ≤ length (role_names v.roles))
-GoesOver (local_line n) v (in_locals name names) limit = (limit ≡ MAX_LOCALS) × (MAX_LOCALS ≤ length names)
-GoesOver (arc_line p q free) v (in_arcs r) limit = (limit ≡ MAX_ARCS) × (MAX_ARCS ≤ length r.arcs)
+GoesOver (local_line n) v (in_role r) limit = (limit ≡ MAX_LOCALS) × (MAX_LOCALS ≤ length r.locals)
+GoesOver (arc_line p q free) v (in_role r) limit = (limit ≡ MAX_ARCS) × (MAX_ARCS ≤ length r.arcs)
 GoesOver (kind_line name a b) v group limit = (limit ≡ MAX_KINDS) × (MAX_KINDS ≤ length (kind_names v.kinds))
-GoesOver (process_line name r) v group limit = (limit ≡ MAX_PROCESSES) × (MAX_PROCESSES ≤ length (process_names v.processes))
+GoesOver (process_line name r start) v group limit = (limit ≡ MAX_PROCESSES) × (MAX_PROCESSES ≤ length (process_names v.processes))
 GoesOver item v group limit = ⊥
 
 -- ClosureOver: the end of a kind whose closure is too large
@@ -115,7 +121,17 @@ abbrev pub HasOtherRoles : Said → SpecParts → Type 0
 HasOtherRoles (edge_line p q kind) v = AreDeclared v p q kind × (AreOfKind v.processes v.kinds (number_in (process_names v.processes) p) (number_in (process_names v.processes) q) (number_in (kind_names v.kinds) kind) → ⊥)
 HasOtherRoles item v = ⊥
 
--- what stands against a line that may stand there: these ten causes, each by its definition
+-- the local state where a process is to begin is named, and is one of the role's, but none of its starts
+abbrev pub IsNoStart : RoleParts → Option (List ℕ) → Type 0
+IsNoStart r None = ⊥
+IsNoStart r (Some name) = Contains r.locals name × (Contains r.starts (number_in r.locals name) → ⊥)
+
+-- NotAStart: a process of a role that is to begin elsewhere than in the role's starts
+abbrev pub BeginsElsewhere : Said → SpecParts → Type 0
+BeginsElsewhere (process_line name r start) v = Contains (role_names v.roles) r × IsNoStart (role_named v.roles r) start
+BeginsElsewhere item v = ⊥
+
+-- what stands against a line that may stand there: these eleven causes, each by its definition
 abbrev pub Blocks : State → Said → TextCause → Type 0
 Blocks s item cause =
     ((cause ≡ UnknownName) × UsesUnknown item s.parts s.group)
@@ -127,7 +143,8 @@ Blocks s item cause =
     ⊎ (((cause ≡ SelfEdge) × IsLoop item s.parts)
     ⊎ (((cause ≡ EdgeTwice) × JoinsAgain item s.parts)
     ⊎ (((k : ℕ) × (cause ≡ DegreeOver k) × Crowds item s.parts k)
-    ⊎ ((cause ≡ RoleMismatch) × HasOtherRoles item s.parts)))))))))
+    ⊎ (((cause ≡ RoleMismatch) × HasOtherRoles item s.parts)
+    ⊎ ((cause ≡ NotAStart) × BeginsElsewhere item s.parts))))))))))
 
 -- a clause is spelled over the local states of the open kind's roles
 abbrev pub IsClauseSpelled : Said → List RoleParts → Group → Type 0

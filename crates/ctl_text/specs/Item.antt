@@ -1,9 +1,10 @@
 -- What a line of a specification says.
-use Rattle.std.specs.Prelude.{ℕ, ◌≡◌, Bool, true, false, List, [], ◌∷◌, codes}
+use Rattle.std.specs.Prelude.{ℕ, ◌≡◌, Bool, true, false, Option, Some, None, IfSome, List, [], ◌∷◌, codes}
 use Rattle.pair_structure.specs.Name.{IsName}
 use Rattle.ctl_form.specs.Form.{Form}
 
--- the kinds of lines; a clause that is required comes with the words behind `require`
+-- the kinds of lines; a clause that is required comes with the words behind `require`, a process with the local state where it begins, if
+-- that is named
 pub data Said : Type 0 where
   head_line : Said
   role_line : List ℕ → Said
@@ -13,7 +14,7 @@ pub data Said : Type 0 where
   kind_line : List ℕ → List ℕ → List ℕ → Said
   require_line : List (List ℕ) → Form → Said
   end_line : Said
-  process_line : List ℕ → List ℕ → Said
+  process_line : List ℕ → List ℕ → Option (List ℕ) → Said
   edge_line : List ℕ → List ℕ → List ℕ → Said
   done_line : Said
 
@@ -28,7 +29,8 @@ words_for (arc_line from to true) = codes "arc" ∷ from ∷ to ∷ codes "free"
 words_for (kind_line name a b) = codes "kind" ∷ name ∷ a ∷ b ∷ []
 words_for (require_line words form) = codes "require" ∷ words
 words_for end_line = codes "end" ∷ []
-words_for (process_line name r) = codes "process" ∷ name ∷ r ∷ []
+words_for (process_line name r None) = codes "process" ∷ name ∷ r ∷ []
+words_for (process_line name r (Some start)) = codes "process" ∷ name ∷ r ∷ start ∷ []
 words_for (edge_line p q kind) = codes "edge" ∷ p ∷ q ∷ kind ∷ []
 words_for done_line = codes "done" ∷ []
 
@@ -39,7 +41,7 @@ IsSpelled (local_line name) = IsName name
 IsSpelled (start_line name) = IsName name
 IsSpelled (arc_line from to free) = IsName from × IsName to
 IsSpelled (kind_line name a b) = IsName name × IsName a × IsName b
-IsSpelled (process_line name r) = IsName name × IsName r
+IsSpelled (process_line name r start) = IsName name × IsName r × IfSome start IsName
 IsSpelled (edge_line p q kind) = IsName p × IsName q × IsName kind
 IsSpelled item = Unit {0}
 

@@ -22,6 +22,7 @@ use Rattle.ctl_text.specs.Value.{SpecParts, role_names, kind_names, kind_ends, p
 abbrev pub Differ : List (List ℕ) → Type 0
 Differ names = AllPairs (λ x y. x ≢ y) names
 
+-- a role with names
 pub record IsNamedRole (r : RoleParts) : Type 0 where
   pub name : IsName r.name
   pub locals : All IsName r.locals

@@ -1,9 +1,9 @@
 -- The canonical text of a specification.
-use Rattle.std.specs.Prelude.{ℕ, Bool, true, false, List, [], ◌∷◌, ◌++◌, codes, map}
+use Rattle.std.specs.Prelude.{ℕ, Bool, true, false, Option, Some, None, ◌==◌, if◌then◌else◌, List, [], ◌∷◌, ◌++◌, codes, map}
 use Rattle.std.specs.List.{flat_map}
 use Rattle.pair_structure.specs.Parts.{Names, name_at, role_at}
 use Rattle.pair_structure.specs.declared.side.LocalArc.{LocalArc}
-use Rattle.pair_structure.specs.Role.{RoleParts}
+use Rattle.pair_structure.specs.Role.{RoleParts, first_start}
 use Rattle.ctl_form.specs.declared.pair_spec.PairSpec.{PairSpec}
 use Rattle.ctl_form.specs.Form.{Form}
 use Rattle.interconnection.specs.declared.parts.Process.{Process}
@@ -29,6 +29,9 @@ ended line = line ++ codes "\n"
 abbrev pub local_text : List ℕ → List ℕ
 local_text name = line_for (local_line name)
 
+abbrev pub start_text : Names → ℕ → List ℕ
+start_text names start = line_for (start_line (name_at names start))
+
 abbrev pub arc_item : Names → LocalArc → Said
 arc_item names arc = arc_line (name_at names arc.from) (name_at names arc.to) arc.free
 
@@ -37,7 +40,7 @@ arc_text names arc = line_for (arc_item names arc)
 
 -- the lines of a role
 abbrev pub role_lines : RoleParts → List (List ℕ)
-role_lines r = line_for (role_line r.name) ∷ (map local_text r.locals ++ (line_for (start_line (name_at r.locals r.start)) ∷ (map (arc_text r.locals) r.arcs ++ (line_for end_line ∷ []))))
+role_lines r = line_for (role_line r.name) ∷ (map local_text r.locals ++ (map (start_text r.locals) r.starts ++ (map (arc_text r.locals) r.arcs ++ (line_for end_line ∷ []))))
 
 -- a required clause over the local states of the two sides
 abbrev pub require_text : Names → Names → Form → List ℕ
@@ -50,8 +53,12 @@ kind_lines_over a b kind = line_for (kind_line kind.name a.name b.name) ∷ (map
 abbrev pub kind_lines : List RoleParts → PairSpec → List (List ℕ)
 kind_lines roles kind = kind_lines_over (role_at roles kind.role_a) (role_at roles kind.role_b) kind
 
+-- the name of the local state where a process of the role begins, where that is not the role's first start
+abbrev pub start_name : RoleParts → ℕ → Option (List ℕ)
+start_name r start = if start == first_start r then None else Some (name_at r.locals start)
+
 abbrev pub process_item : List RoleParts → Process → Said
-process_item roles p = process_line p.name (role_at roles p.role).name
+process_item roles p = process_line p.name (role_at roles p.role).name (start_name (role_at roles p.role) p.start)
 
 abbrev pub process_text : List RoleParts → Process → List ℕ
 process_text roles p = line_for (process_item roles p)
@@ -68,6 +75,11 @@ spec_lines v = line_for head_line ∷ (flat_map role_lines v.roles ++ (flat_map 
 
 abbrev pub spec_text : SpecParts → List ℕ
 spec_text v = flat_map ended (spec_lines v)
+
+-- how a process's line goes on behind its role
+abbrev pub start_word : Option (List ℕ) → List ℕ
+start_word None = []
+start_word (Some name) = codes " " ++ name
 
 -- how an arc's line ends
 abbrev pub free_text : Bool → List ℕ

@@ -1,18 +1,18 @@
 -- What stands above a line: what has been declared, and which group of lines is open.
-use Rattle.std.specs.Prelude.{ℕ, ◌<◌, List, [], ◌∷◌, ◌++◌, Bool, length}
+use Rattle.std.specs.Prelude.{ℕ, ◌≡◌, ◌<◌, Option, List, [], ◌∷◌, ◌++◌, Bool, length}
 use Rattle.pair_structure.specs.declared.side.LocalArc.{LocalArc}
 use Rattle.pair_structure.specs.Role.{RoleParts}
 use Rattle.ctl_form.specs.declared.pair_spec.PairSpec.{PairSpec}
 use Rattle.ctl_form.specs.Form.{Form}
+use Rattle.interconnection.specs.declared.parts.Process.{Process}
 use Rattle.ctl_text.specs.Item.{Said, head_line, role_line, local_line, start_line, arc_line, kind_line, require_line, end_line, process_line, edge_line, done_line}
-use Rattle.ctl_text.specs.Value.{SpecParts, role_names, kind_names, process_names, number_in}
+use Rattle.ctl_text.specs.Value.{SpecParts, role_names, kind_names, process_names, number_in, role_named, start_named}
 
--- which group is open: an open role has its name and local states above its start, and its arcs below; an open kind has its clauses
+-- which group is open: an open role and an open kind have what their lines have declared so far
 pub data Group : Type 0 where
   before_head : Group
   among_roles : Group
-  in_locals : List ℕ → List (List ℕ) → Group
-  in_arcs : RoleParts → Group
+  in_role : RoleParts → Group
   among_kinds : Group
   in_kind : PairSpec → Group
   among_processes : Group
@@ -27,44 +27,49 @@ pub record State : Type 0 where
 abbrev pub first_state : State
 first_state = record { parts = record { roles = []; kinds = []; processes = []; edges = [] }; group = before_head }
 
--- the line may stand there
+-- the line may stand there: in a role the local states stand above the starts, and these above the arcs
 abbrev pub MayStand : Group → Said → Type 0
 MayStand before_head head_line = Unit {0}
 MayStand among_roles (role_line name) = Unit {0}
 MayStand among_roles (kind_line name a b) = Unit {0}
-MayStand among_roles (process_line name r) = Unit {0}
+MayStand among_roles (process_line name r start) = Unit {0}
 MayStand among_roles (edge_line p q kind) = Unit {0}
 MayStand among_roles done_line = Unit {0}
-MayStand (in_locals name names) (local_line n) = Unit {0}
-MayStand (in_locals name names) (start_line n) = 0 < length names
-MayStand (in_arcs r) (arc_line p q free) = Unit {0}
-MayStand (in_arcs r) end_line = Unit {0}
+MayStand (in_role r) (local_line n) = length r.starts ≡ 0
+MayStand (in_role r) (start_line n) = (0 < length r.locals) × (length r.arcs ≡ 0)
+MayStand (in_role r) (arc_line p q free) = 0 < length r.starts
+MayStand (in_role r) end_line = 0 < length r.starts
 MayStand among_kinds (kind_line name a b) = Unit {0}
-MayStand among_kinds (process_line name r) = Unit {0}
+MayStand among_kinds (process_line name r start) = Unit {0}
 MayStand among_kinds (edge_line p q kind) = Unit {0}
 MayStand among_kinds done_line = Unit {0}
 MayStand (in_kind k) (require_line words form) = Unit {0}
 MayStand (in_kind k) end_line = Unit {0}
-MayStand among_processes (process_line name r) = Unit {0}
+MayStand among_processes (process_line name r start) = Unit {0}
 MayStand among_processes (edge_line p q kind) = Unit {0}
 MayStand among_processes done_line = Unit {0}
 MayStand among_edges (edge_line p q kind) = Unit {0}
 MayStand among_edges done_line = Unit {0}
 MayStand group item = ⊥
 
+-- a role of this name, of which nothing more is declared
+abbrev pub opened_role : List ℕ → Group
+opened_role name = in_role (record { name = name; locals = []; starts = []; arcs = [] })
+
+-- the open role with one more local state, start or arc
 abbrev pub with_local : Group → List ℕ → Group
-with_local (in_locals name names) n = in_locals name (names ++ n ∷ [])
+with_local (in_role r) n = in_role (record r { locals = r.locals ++ n ∷ [] })
 with_local group n = group
 
 abbrev pub with_start : Group → List ℕ → Group
-with_start (in_locals name names) n = in_arcs (record { name = name; locals = names; start = number_in names n; arcs = [] })
+with_start (in_role r) n = in_role (record r { starts = r.starts ++ number_in r.locals n ∷ [] })
 with_start group n = group
 
 abbrev pub arc_in : List (List ℕ) → List ℕ → List ℕ → Bool → LocalArc
 arc_in names p q free = record { from = number_in names p; to = number_in names q; free = free }
 
 abbrev pub with_arc : Group → List ℕ → List ℕ → Bool → Group
-with_arc (in_arcs r) p q free = in_arcs (record { name = r.name; locals = r.locals; start = r.start; arcs = r.arcs ++ arc_in r.locals p q free ∷ [] })
+with_arc (in_role r) p q free = in_role (record r { arcs = r.arcs ++ arc_in r.locals p q free ∷ [] })
 with_arc group p q free = group
 
 -- the open kind with one more clause
@@ -74,20 +79,23 @@ with_form group form = group
 
 -- an open role or kind is declared where it ends
 abbrev pub with_ended : SpecParts → Group → SpecParts
-with_ended v (in_arcs r) = record { roles = v.roles ++ r ∷ []; kinds = v.kinds; processes = v.processes; edges = v.edges }
+with_ended v (in_role r) = record { roles = v.roles ++ r ∷ []; kinds = v.kinds; processes = v.processes; edges = v.edges }
 with_ended v (in_kind k) = record { roles = v.roles; kinds = v.kinds ++ k ∷ []; processes = v.processes; edges = v.edges }
 with_ended v group = v
 
 abbrev pub group_after_end : Group → Group
-group_after_end (in_arcs r) = among_roles
+group_after_end (in_role r) = among_roles
 group_after_end (in_kind k) = among_kinds
 group_after_end group = group
 
 abbrev pub opened_kind : List RoleParts → List ℕ → List ℕ → List ℕ → Group
 opened_kind roles name a b = in_kind (record { name = name; role_a = number_in (role_names roles) a; role_b = number_in (role_names roles) b; clauses = [] })
 
-abbrev pub with_process : SpecParts → List ℕ → List ℕ → SpecParts
-with_process v name r = record { roles = v.roles; kinds = v.kinds; processes = v.processes ++ record { name = name; role = number_in (role_names v.roles) r } ∷ []; edges = v.edges }
+abbrev pub process_in : List RoleParts → List ℕ → List ℕ → Option (List ℕ) → Process
+process_in roles name r start = record { name = name; role = number_in (role_names roles) r; start = start_named (role_named roles r) start }
+
+abbrev pub with_process : SpecParts → List ℕ → List ℕ → Option (List ℕ) → SpecParts
+with_process v name r start = record v { processes = v.processes ++ process_in v.roles name r start ∷ [] }
 
 abbrev pub with_edge : SpecParts → List ℕ → List ℕ → List ℕ → SpecParts
 with_edge v p q kind = record {
@@ -100,13 +108,13 @@ with_edge v p q kind = record {
 -- what stands below a line that says this
 abbrev pub after : State → Said → State
 after s head_line = record { parts = s.parts; group = among_roles }
-after s (role_line name) = record { parts = s.parts; group = in_locals name [] }
+after s (role_line name) = record { parts = s.parts; group = opened_role name }
 after s (local_line n) = record { parts = s.parts; group = with_local s.group n }
 after s (start_line n) = record { parts = s.parts; group = with_start s.group n }
 after s (arc_line p q free) = record { parts = s.parts; group = with_arc s.group p q free }
 after s (kind_line name a b) = record { parts = s.parts; group = opened_kind s.parts.roles name a b }
 after s (require_line words form) = record { parts = s.parts; group = with_form s.group form }
 after s end_line = record { parts = with_ended s.parts s.group; group = group_after_end s.group }
-after s (process_line name r) = record { parts = with_process s.parts name r; group = among_processes }
+after s (process_line name r start) = record { parts = with_process s.parts name r start; group = among_processes }
 after s (edge_line p q kind) = record { parts = with_edge s.parts p q kind; group = among_edges }
 after s done_line = record { parts = s.parts; group = after_done }

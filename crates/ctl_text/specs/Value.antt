@@ -1,13 +1,15 @@
 -- What a specification says, as a value.
-use Rattle.std.specs.Prelude.{ℕ, List, [], map, position, slice_index_or}
+use Rattle.std.specs.Prelude.{ℕ, Option, Some, None, List, [], map, position, slice_index_or}
 use Rattle.std.specs.Option.{unwrap_or}
 use Rattle.std.specs.Str.{bytes_eq}
-use Rattle.pair_structure.specs.Role.{RoleParts}
+use Rattle.pair_structure.specs.Parts.{role_at}
+use Rattle.pair_structure.specs.Role.{RoleParts, first_start}
 use Rattle.ctl_form.specs.declared.pair_spec.PairSpec.{PairSpec}
 use Rattle.interconnection.specs.declared.parts.Process.{Process}
 use Rattle.interconnection.specs.declared.parts.Edge.{Edge}
 pub use Rattle.interconnection.specs.Graph.{AreJoined}
 use Rattle.interconnection.specs.Network.{NetworkParts}
+pub use Rattle.interconnection.specs.Network.{process_at}
 
 -- roles, kinds of pairs, processes and edges, each numbered by its place
 pub record SpecParts : Type 0 where
@@ -37,10 +39,15 @@ process_names = map (λ p. p.name)
 abbrev pub number_in : List (List ℕ) → List ℕ → ℕ
 number_in names name = unwrap_or (position (λ x. bytes_eq x name) names) 0
 
+-- the role of this name, and that of number 0 where there is none
+abbrev pub role_named : List RoleParts → List ℕ → RoleParts
+role_named roles name = role_at roles (number_in (role_names roles) name)
+
+-- the local state where a process of the role begins: that of this name, or else the role's first start
+abbrev pub start_named : RoleParts → Option (List ℕ) → ℕ
+start_named r None = first_start r
+start_named r (Some name) = number_in r.locals name
+
 -- a kind by its number; past the end one over role 0
 abbrev pub kind_at : List PairSpec → ℕ → PairSpec
 kind_at kinds n = slice_index_or kinds n (record { name = []; role_a = 0; role_b = 0; clauses = [] })
-
--- a process by its number; past the end one of role 0
-abbrev pub process_at : List Process → ℕ → Process
-process_at processes n = slice_index_or processes n (record { name = []; role = 0 })

@@ -1,21 +1,22 @@
-ghost use Rattle.std.specs.Prelude.{◌≡◌, ◌++◌, ◌∷◌, [], IfOk, IfErr, length};
+ghost use Rattle.std.specs.Prelude.{◌≡◌, ◌<◌, ◌++◌, ◌∷◌, [], IfOk, IfErr, length};
 ghost use Rattle.ctl_form.specs.Numbered.{IsNormalOf};
 ghost use Rattle.text_cause.specs.Answers.{IsBadBy};
 ghost use Rattle.text_cause.specs.Cause.{IsFree};
 ghost use Rattle.ctl_text.specs.Item.{end_line};
 ghost use Rattle.ctl_text.specs.Normals.{conjuncts_of};
 ghost use Rattle.ctl_text.specs.SoundValue.{IsOverRoles};
-ghost use Rattle.ctl_text.specs.State.{MayStand, in_arcs};
+ghost use Rattle.ctl_text.specs.State.{MayStand};
 ghost use Rattle.ctl_text.specs.inside.Judged.{IsSaidTaken};
 ghost use Rattle.ctl_text.specs.inside.LineCause.{LineBlocks, RoleEndStands, KindEndStands};
-ghost use Rattle.ctl_text.specs.inside.Sound.{IsSound, IsSoundState};
-ghost use Rattle.ctl_text.specs.inside.View.{group_of, state_of};
+ghost use Rattle.ctl_text.specs.inside.Sound.{IsSoundRole, IsSoundState};
+ghost use Rattle.ctl_text.specs.inside.View.{group_of, parts_of, state_of};
 
+use crate::open_role::OpenRole;
 use crate::pairs::Pairs;
 use crate::place::{Place, Reader};
 use crate::role_cause::role_end_cause;
 use ctl_form::{Clauses, Normal, NormalFault, PairSpec, whole};
-use pair_structure::{LocalArc, Name, Role};
+use pair_structure::Role;
 use std::alloc::Global;
 use text_cause::{LineFault, TextCause};
 
@@ -28,14 +29,9 @@ pub(crate) fn take_end(alloc: Global, mut reader: Reader) -> Result<Reader, Line
 {
     let place = reader.place;
     match place {
-        Place::InArcs {
-            name,
-            locals,
-            start,
-            arcs,
-        } => {
+        Place::InRole(role) => {
             reader.place = Place::AmongRoles;
-            reader.pairs = with_ended_role(reader.pairs, name, locals, start, arcs)?;
+            reader.pairs = with_ended_role(reader.pairs, role)?;
             Ok(reader)
         }
         Place::InKind {
@@ -59,23 +55,24 @@ pub(crate) fn take_end(alloc: Global, mut reader: Reader) -> Result<Reader, Line
     }
 }
 
-/// With one role more, of these parts.
-fn with_ended_role(
-    pairs: Pairs,
-    name: Name,
-    locals: Vec<Name>,
-    start: u8,
-    arcs: Vec<LocalArc>,
-) -> Result<Pairs, LineFault>
-    requires { IsSound (in_arcs (record { name = name; locals = locals.items; start = start; arcs = arcs.items })) }
-    ensures grown { IfOk result (λ made. made ≡ record { roles = pairs.roles ++ record { name = name; locals = locals.items; start = start; arcs = arcs.items } ∷ []; kinds = pairs.kinds }) }
-    ensures free { IfOk result (λ made. IsFree (RoleEndStands locals.items arcs.items)) }
-    ensures refused { IfErr result (IsBadBy (RoleEndStands locals.items arcs.items)) }
+/// With one role more.
+fn with_ended_role(pairs: Pairs, role: OpenRole) -> Result<Pairs, LineFault>
+    requires sound { IsSoundRole (parts_of role) }
+    requires begins { 0 < length role.starts.items }
+    ensures grown { IfOk result (λ made. made ≡ record { roles = pairs.roles ++ parts_of role ∷ []; kinds = pairs.kinds }) }
+    ensures free { IfOk result (λ made. IsFree (RoleEndStands role.locals.items role.arcs.items)) }
+    ensures refused { IfErr result (IsBadBy (RoleEndStands role.locals.items role.arcs.items)) }
 {
+    let OpenRole {
+        name,
+        locals,
+        starts,
+        arcs,
+    } = role;
     if let Some(cause) = role_end_cause(&locals, &arcs) {
         return Err(LineFault::Bad(cause));
     }
-    match Role::make(name, locals, start, arcs) {
+    match Role::with_starts(name, locals, starts, arcs) {
         Ok(role) => {
             let pairs = pairs.with_role(role)?;
             Ok(pairs)

@@ -45,37 +45,6 @@ fn kind_name_cause(kinds: &[PairSpec], name: &[u8]) -> Option<TextCause>
     None
 }
 
-/// What stands against a process of this name and role.
-pub(crate) fn process_cause(
-    roles: &[Role],
-    processes: &Processes,
-    name: &[u8],
-    role: &[u8],
-) -> Option<TextCause>
-    ensures some { IfSome result (IsLowest (ProcessStands roles.now processes.now name.now role.now)) }
-    ensures none { IfNone result (IsFree (ProcessStands roles.now processes.now name.now role.now)) }
-{
-    if !has_role(roles, role) {
-        return Some(TextCause::UnknownName);
-    }
-    process_name_cause(processes, name)
-}
-
-fn process_name_cause(processes: &Processes, name: &[u8]) -> Option<TextCause>
-    ensures some { IfSome result (IsLowest (NameStands (process_names processes.now) MAX_PROCESSES name.now)) }
-    ensures none { IfNone result (IsFree (NameStands (process_names processes.now) MAX_PROCESSES name.now)) }
-{
-    if has_process(processes, name) {
-        return Some(TextCause::Twice);
-    }
-    if processes.as_slice().len() >= MAX_PROCESSES {
-        return Some(TextCause::TooMany {
-            limit: MAX_PROCESSES as u32,
-        });
-    }
-    None
-}
-
 /// What stands against an edge of this kind between these processes.
 pub(crate) fn edge_cause(
     processes: &Processes,

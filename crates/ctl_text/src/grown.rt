@@ -1,20 +1,18 @@
-ghost use Rattle.std.specs.Prelude.{◌≡◌, ◌<◌, ◌≤◌, ◌∷◌, [], ◌++◌, ◌^◌, IfOk, IfErr, length};
+ghost use Rattle.std.specs.Prelude.{◌≡◌, ◌≤◌, IfOk, IfErr, length};
 ghost use Rattle.pair_structure.specs.Name.{IsName};
 ghost use Rattle.ctl_form.specs.Form.{form_of};
-ghost use Rattle.ctl_text.specs.Item.{start_line};
-ghost use Rattle.ctl_text.specs.State.{MayStand, with_local, with_start, with_arc, with_form, opened_kind};
+ghost use Rattle.ctl_text.specs.State.{with_local, with_start, with_arc, with_form, opened_kind};
 ghost use Rattle.text_cause.specs.Answers.{IsBadBy};
 ghost use Rattle.text_cause.specs.Cause.{IsFree};
 ghost use Rattle.ctl_text.specs.inside.LineCause.{LocalBlocks, StartBlocks, ArcBlocks};
 ghost use Rattle.ctl_text.specs.inside.Sound.{IsSound};
 ghost use Rattle.ctl_text.specs.inside.View.{group_of};
 
-use crate::names::{local_number, name_of, role_number};
+use crate::names::{name_of, role_number};
 use crate::place::Place;
-use crate::role_cause::{arc_cause, local_cause, start_cause};
 use ctl_form::Formula;
 use interconnection::MAX_ROLES;
-use pair_structure::{LocalArc, Name, Role};
+use pair_structure::Role;
 use std::alloc::{AllocError, Global};
 use text_cause::LineFault;
 
@@ -28,46 +26,26 @@ pub(crate) fn with_local(alloc: Global, place: Place, name: &[u8]) -> Result<Pla
     ensures refused { IfErr result (IsBadBy (LocalBlocks (group_of place) name.now)) }
 {
     match place {
-        Place::InLocals { name: role, locals } => {
-            if let Some(cause) = local_cause(&locals, name) {
-                return Err(LineFault::Bad(cause));
-            }
-            let locals = name_added(locals, name_of(alloc, name)?)?;
-            Ok(Place::InLocals { name: role, locals })
+        Place::InRole(role) => {
+            let role = role.with_local(alloc, name)?;
+            Ok(Place::InRole(role))
         }
         other => Ok(other),
     }
 }
 
-fn name_added(mut names: Vec<Name>, name: Name) -> Result<Vec<Name>, AllocError>
-    ensures { IfOk result (λ more. more.items ≡ names.items ++ name ∷ []) }
-{
-    names.push(name)?;
-    Ok(names)
-}
-
-/// An open role with its start, ready for arcs.
-pub(crate) fn with_start(alloc: Global, place: Place, name: &[u8]) -> Result<Place, LineFault>
-    requires sound { IsSound (group_of place) }
-    requires may { MayStand (group_of place) (start_line name.now) }
+/// An open role with one more start.
+pub(crate) fn with_start(place: Place, name: &[u8]) -> Result<Place, LineFault>
+    requires { IsSound (group_of place) }
     ensures place { IfOk result (λ p. group_of p ≡ with_start (group_of place) name.now) }
     ensures free { IfOk result (λ p. IsFree (StartBlocks (group_of place) name.now)) }
     ensures sound { IfOk result (λ p. IsSound (group_of p)) }
     ensures refused { IfErr result (IsBadBy (StartBlocks (group_of place) name.now)) }
 {
     match place {
-        Place::InLocals { name: role, locals } => {
-            if let Some(cause) = start_cause(&locals, name) {
-                return Err(LineFault::Bad(cause));
-            }
-            let start = local_number(&locals, name) as u8;
-            let arcs = Vec::new(alloc);
-            Ok(Place::InArcs {
-                name: role,
-                locals,
-                start,
-                arcs,
-            })
+        Place::InRole(role) => {
+            let role = role.with_start(name)?;
+            Ok(Place::InRole(role))
         }
         other => Ok(other),
     }
@@ -75,41 +53,19 @@ pub(crate) fn with_start(alloc: Global, place: Place, name: &[u8]) -> Result<Pla
 
 /// An open role with one more arc.
 pub(crate) fn with_arc(place: Place, from: &[u8], to: &[u8], free: bool) -> Result<Place, LineFault>
-    requires sound { IsSound (group_of place) }
+    requires { IsSound (group_of place) }
     ensures place { IfOk result (λ p. group_of p ≡ with_arc (group_of place) from.now to.now free) }
     ensures free { IfOk result (λ p. IsFree (ArcBlocks (group_of place) from.now to.now)) }
     ensures sound { IfOk result (λ p. IsSound (group_of p)) }
     ensures refused { IfErr result (IsBadBy (ArcBlocks (group_of place) from.now to.now)) }
 {
     match place {
-        Place::InArcs {
-            name,
-            locals,
-            start,
-            arcs,
-        } => {
-            if let Some(cause) = arc_cause(&locals, &arcs, from, to) {
-                return Err(LineFault::Bad(cause));
-            }
-            let from = local_number(&locals, from) as u8;
-            let to = local_number(&locals, to) as u8;
-            let arcs = arc_added(arcs, LocalArc { from, to, free })?;
-            Ok(Place::InArcs {
-                name,
-                locals,
-                start,
-                arcs,
-            })
+        Place::InRole(role) => {
+            let role = role.with_arc(from, to, free)?;
+            Ok(Place::InRole(role))
         }
         other => Ok(other),
     }
-}
-
-fn arc_added(mut arcs: Vec<LocalArc>, arc: LocalArc) -> Result<Vec<LocalArc>, AllocError>
-    ensures { IfOk result (λ more. more.items ≡ arcs.items ++ arc ∷ []) }
-{
-    arcs.push(arc)?;
-    Ok(arcs)
 }
 
 /// A kind over these roles, with no clause so far.

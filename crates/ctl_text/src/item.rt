@@ -1,5 +1,5 @@
 ghost use Rattle.std.specs.Prelude.{◌≡◌, ◌↔◌, IsTrue, IfSome, IfNone, map, ◌∷◌, [], Some};
-ghost use Rattle.std.specs.Option.{option_map};
+ghost use Rattle.std.specs.Option.{option_copied, option_map};
 ghost use Rattle.pair_structure.specs.Name.{IsName};
 ghost use Rattle.ctl_text.specs.Item.{Said, IsSpelled, Says};
 ghost use Rattle.ctl_text.specs.inside.ItemReading.{item_at, one_at, two_at, three_at, four_at};
@@ -29,6 +29,7 @@ pub(crate) enum Item<'a> {
     Process {
         name: &'a [u8],
         role: &'a [u8],
+        start: Option<&'a [u8]>,
     },
     Edge {
         a: &'a [u8],
@@ -105,7 +106,11 @@ fn three<'a>(word: &[u8], a: &'a [u8], b: &'a [u8]) -> Option<Item<'a>>
         });
     }
     if word == b"process".as_slice() {
-        return Some(Item::Process { name: a, role: b });
+        return Some(Item::Process {
+            name: a,
+            role: b,
+            start: None,
+        });
     }
     None
 }
@@ -128,6 +133,13 @@ fn four<'a>(word: &[u8], a: &'a [u8], b: &'a [u8], c: &'a [u8]) -> Option<Item<'
             b: c,
         });
     }
+    if word == b"process".as_slice() {
+        return Some(Item::Process {
+            name: a,
+            role: b,
+            start: Some(c),
+        });
+    }
     if word == b"edge".as_slice() {
         return Some(Item::Edge { a, b, kind: c });
     }
@@ -143,7 +155,19 @@ fn is_spelled(item: Item<'_>) -> bool
         Item::Role(name) | Item::Local(name) | Item::Start(name) => is_name(name),
         Item::Arc { from, to, .. } => is_name(from) && is_name(to),
         Item::Kind { name, a, b } => is_name(name) && is_name(a) && is_name(b),
-        Item::Process { name, role } => is_name(name) && is_name(role),
+        Item::Process { name, role, start } => {
+            is_name(name) && is_name(role) && is_spelled_start(start)
+        }
         Item::Edge { a, b, kind } => is_name(a) && is_name(b) && is_name(kind),
+    }
+}
+
+/// Whether the name is spelled as one, if there is one.
+fn is_spelled_start(start: Option<&[u8]>) -> bool
+    ensures { IsTrue result ↔ IfSome (option_copied start.entry) IsName }
+{
+    match start {
+        None => true,
+        Some(name) => is_name(name),
     }
 }

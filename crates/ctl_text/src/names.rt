@@ -1,7 +1,7 @@
-ghost use Rattle.std.specs.Prelude.{◌≡◌, ◌↔◌, ◌<◌, ◌≤◌, IsTrue, IfSome, IfOk, Contains, length, position};
+ghost use Rattle.std.specs.Prelude.{◌≡◌, ◌↔◌, ◌<◌, ◌≤◌, IsTrue, IfSome, IfNone, IfOk, Contains, length, position};
 ghost use Rattle.std.specs.Str.{bytes_eq};
 ghost use Rattle.pair_structure.specs.Name.{IsName};
-ghost use Rattle.ctl_text.specs.Value.{role_names, kind_names, process_names, number_in};
+ghost use Rattle.ctl_text.specs.Value.{role_names, kind_names, process_names, number_in, role_named};
 
 use ctl_form::PairSpec;
 use interconnection::Processes;
@@ -51,10 +51,22 @@ pub(crate) fn has_process(processes: &Processes, name: &[u8]) -> bool
     process_place(processes, name).is_some()
 }
 
+/// The role of this name.
+pub(crate) fn role_named<'a>(roles: &'a [Role], name: &[u8]) -> Option<&'a Role>
+    ensures there { IfSome result (λ r. Contains (role_names roles.now) name.now) }
+    ensures role { IfSome result (λ r. r.now ≡ role_named roles.now name.now) }
+    ensures none { IfNone result (Contains (role_names roles.now) name.now → ⊥) }
+{
+    if !has_role(roles, name) {
+        return None;
+    }
+    roles.get(role_number(roles, name))
+}
+
 /// The number of the local state of this name, and 0 where there is none.
 pub(crate) fn local_number(names: &[Name], name: &[u8]) -> usize
     ensures number { result ≡ number_in names.now name.now }
-    ensures within { 0 < length names.now → result < length names.now }
+    ensures within { result ≤ length names.now }
 {
     local_place(names, name).unwrap_or(0)
 }

@@ -1,28 +1,20 @@
 ghost use Rattle.std.specs.Prelude.{◌↔◌, IsTrue};
-ghost use Rattle.ctl_text.specs.State.{MayStand, among_kinds};
-ghost use Rattle.ctl_text.specs.inside.View.{group_of, said};
+ghost use Rattle.ctl_text.specs.State.{MayStand, among_kinds, in_role};
+ghost use Rattle.ctl_text.specs.inside.View.{group_of, parts_of, said};
 
 use crate::item::Item;
+use crate::open_role::OpenRole;
 use crate::pairs::Pairs;
 use ctl_form::Formula;
 use interconnection::{Edges, Processes};
-use pair_structure::{LocalArc, Name};
+use pair_structure::Name;
 
 /// Which group of lines is open, with what an open role or kind has so far.
 #[derive(Drop)]
 pub(crate) enum Place {
     BeforeHead,
     AmongRoles,
-    InLocals {
-        name: Name,
-        locals: Vec<Name>,
-    },
-    InArcs {
-        name: Name,
-        locals: Vec<Name>,
-        start: u8,
-        arcs: Vec<LocalArc>,
-    },
+    InRole(OpenRole),
     AmongKinds,
     InKind {
         name: Name,
@@ -51,12 +43,7 @@ pub(crate) fn may_stand(place: &Place, item: Item<'_>) -> bool
     match place {
         Place::BeforeHead => matches!(item, Item::Head),
         Place::AmongRoles => matches!(item, Item::Role(_)) || may_follow_roles(item),
-        Place::InLocals { locals, .. } => match item {
-            Item::Local(_) => true,
-            Item::Start(_) => !locals.is_empty(),
-            _ => false,
-        },
-        Place::InArcs { .. } => matches!(item, Item::Arc { .. } | Item::End),
+        Place::InRole(role) => may_stand_in(role, item),
         Place::AmongKinds => may_follow_roles(item),
         Place::InKind { .. } => matches!(item, Item::End),
         Place::AmongProcesses => {
@@ -64,6 +51,18 @@ pub(crate) fn may_stand(place: &Place, item: Item<'_>) -> bool
         }
         Place::AmongEdges => matches!(item, Item::Edge { .. } | Item::Done),
         Place::AfterDone => false,
+    }
+}
+
+/// Whether the line may stand in the open role.
+fn may_stand_in(role: &OpenRole, item: Item<'_>) -> bool
+    ensures { IsTrue result ↔ MayStand (in_role (parts_of role.now)) (said item.entry) }
+{
+    match item {
+        Item::Local(_) => role.starts.is_empty(),
+        Item::Start(_) => !role.locals.is_empty() && role.arcs.is_empty(),
+        Item::Arc { .. } | Item::End => !role.starts.is_empty(),
+        _ => false,
     }
 }
 

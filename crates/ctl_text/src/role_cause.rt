@@ -2,8 +2,7 @@ ghost use Rattle.std.specs.Prelude.{◌≡◌, ◌↔◌, ◌<◌, ◌≤◌, Is
 ghost use Rattle.pair_structure.specs.Role.{HasArc, HasArcFrom};
 ghost use Rattle.ctl_text.specs.Value.{role_names, number_in};
 ghost use Rattle.text_cause.specs.Cause.{IsLowest, IsFree};
-ghost use Rattle.ctl_text.specs.Cause.{UseStands};
-ghost use Rattle.ctl_text.specs.inside.LineCause.{NameStands, ArcStands, RoleEndStands};
+ghost use Rattle.ctl_text.specs.inside.LineCause.{NameStands, StartStands, ArcStands, RoleEndStands};
 
 use crate::names::{has_local, has_role, local_number};
 use interconnection::MAX_ROLES;
@@ -43,14 +42,24 @@ pub(crate) fn local_cause(names: &[Name], name: &[u8]) -> Option<TextCause>
 }
 
 /// What stands against a start at this local state.
-pub(crate) fn start_cause(names: &[Name], name: &[u8]) -> Option<TextCause>
-    ensures some { IfSome result (IsLowest (UseStands names.now name.now)) }
-    ensures none { IfNone result (IsFree (UseStands names.now name.now)) }
+pub(crate) fn start_cause(names: &[Name], starts: &[u8], name: &[u8]) -> Option<TextCause>
+    ensures some { IfSome result (IsLowest (StartStands names.now starts.now name.now)) }
+    ensures none { IfNone result (IsFree (StartStands names.now starts.now name.now)) }
 {
     if !has_local(names, name) {
         return Some(TextCause::UnknownName);
     }
+    if has_start(starts, local_number(names, name)) {
+        return Some(TextCause::Twice);
+    }
     None
+}
+
+/// Whether the local state of this number is among the starts.
+pub(crate) fn has_start(starts: &[u8], local: usize) -> bool
+    ensures { IsTrue result ↔ Contains starts.now local }
+{
+    starts.iter().any(|start| *start as usize == local)
 }
 
 /// What stands against an arc between these local states.

@@ -1,4 +1,5 @@
 ghost use Rattle.std.specs.Prelude.{◌≡◌, ◌≤◌, ◌^◌, IfOk, IfErr, length};
+ghost use Rattle.std.specs.Option.{option_copied};
 ghost use Rattle.pair_structure.specs.Name.{IsName};
 ghost use Rattle.text_cause.specs.Answers.{IsBadBy};
 ghost use Rattle.ctl_text.specs.Item.{role_line, local_line, start_line, arc_line, kind_line, process_line, edge_line, IsSpelled};
@@ -10,11 +11,13 @@ ghost use Rattle.ctl_text.specs.inside.View.{group_of, state_of, said};
 
 use crate::added::{edge_added, process_added};
 use crate::ended::take_end;
-use crate::graph_cause::{edge_cause, kind_cause, process_cause};
+use crate::graph_cause::{edge_cause, kind_cause};
 use crate::grown::{opened_kind, with_arc, with_local, with_start};
 use crate::item::Item;
 use crate::names::name_of;
+use crate::open_role::OpenRole;
 use crate::place::{Place, Reader};
+use crate::process_cause::process_cause;
 use crate::role_cause::role_cause;
 use std::alloc::Global;
 use text_cause::LineFault;
@@ -38,7 +41,7 @@ pub(crate) fn take_said(alloc: Global, reader: Reader, item: Item<'_>) -> Result
             Ok(reader)
         }
         Item::Start(name) => {
-            let reader = take_start(alloc, reader, name)?;
+            let reader = take_start(reader, name)?;
             Ok(reader)
         }
         Item::Arc { from, to, free } => {
@@ -53,8 +56,8 @@ pub(crate) fn take_said(alloc: Global, reader: Reader, item: Item<'_>) -> Result
             let reader = take_end(alloc, reader)?;
             Ok(reader)
         }
-        Item::Process { name, role } => {
-            let reader = take_process(alloc, reader, name, role)?;
+        Item::Process { name, role, start } => {
+            let reader = take_process(alloc, reader, name, role, start)?;
             Ok(reader)
         }
         Item::Edge { a, b, kind } => {
@@ -82,9 +85,8 @@ fn take_role(alloc: Global, reader: Reader, name: &[u8]) -> Result<Reader, LineF
     if let Some(cause) = role_cause(reader.pairs.roles(), name) {
         return Err(LineFault::Bad(cause));
     }
-    let name = name_of(alloc, name)?;
-    let locals = Vec::new(alloc);
-    Ok(opened(reader, Place::InLocals { name, locals }))
+    let role = OpenRole::new(alloc, name_of(alloc, name)?);
+    Ok(opened(reader, Place::InRole(role)))
 }
 
 fn take_local(alloc: Global, mut reader: Reader, name: &[u8]) -> Result<Reader, LineFault>
@@ -97,13 +99,12 @@ fn take_local(alloc: Global, mut reader: Reader, name: &[u8]) -> Result<Reader, 
     Ok(reader)
 }
 
-fn take_start(alloc: Global, mut reader: Reader, name: &[u8]) -> Result<Reader, LineFault>
+fn take_start(mut reader: Reader, name: &[u8]) -> Result<Reader, LineFault>
     requires sound { IsSoundState (state_of reader) }
-    requires may { MayStand (group_of reader.place) (start_line name.now) }
     ensures taken { IfOk result (λ r. IsSaidTaken (state_of reader) (start_line name.now) (state_of r)) }
     ensures refused { IfErr result (IsBadBy (LineBlocks (state_of reader) (start_line name.now))) }
 {
-    reader.place = with_start(alloc, reader.place, name)?;
+    reader.place = with_start(reader.place, name)?;
     Ok(reader)
 }
 
@@ -140,16 +141,18 @@ fn take_process(
     reader: Reader,
     name: &[u8],
     role: &[u8],
+    start: Option<&[u8]>,
 ) -> Result<Reader, LineFault>
     requires sound { IsSoundState (state_of reader) }
     requires name { IsName name.now }
-    ensures taken { IfOk result (λ r. IsSaidTaken (state_of reader) (process_line name.now role.now) (state_of r)) }
-    ensures refused { IfErr result (IsBadBy (LineBlocks (state_of reader) (process_line name.now role.now))) }
+    ensures taken { IfOk result (λ r. IsSaidTaken (state_of reader) (process_line name.now role.now (option_copied start.entry)) (state_of r)) }
+    ensures refused { IfErr result (IsBadBy (LineBlocks (state_of reader) (process_line name.now role.now (option_copied start.entry)))) }
 {
-    if let Some(cause) = process_cause(reader.pairs.roles(), &reader.processes, name, role) {
+    let roles = reader.pairs.roles();
+    if let Some(cause) = process_cause(roles, &reader.processes, name, role, start) {
         return Err(LineFault::Bad(cause));
     }
-    let reader = process_added(alloc, reader, name, role)?;
+    let reader = process_added(alloc, reader, name, role, start)?;
     Ok(reader)
 }
 

@@ -1,9 +1,10 @@
 ghost use Rattle.std.specs.Prelude.{◌≡◌, ◌++◌, OnOk, OnErr, map};
 ghost use Rattle.std.specs.List.{flat_map};
 ghost use Rattle.pair_structure.specs.Parts.{name_at, role_at};
+ghost use Rattle.pair_structure.specs.Role.{first_start};
 ghost use Rattle.ctl_form.specs.Form.{form_of};
 ghost use Rattle.ctl_text.specs.Item.{head_line, role_line, start_line, kind_line, end_line, done_line};
-ghost use Rattle.ctl_text.specs.SpecText.{line_for, ended, local_text, arc_text, free_text, role_text, require_text, kind_lines_over, kind_text, process_text, edge_text, spec_text};
+ghost use Rattle.ctl_text.specs.SpecText.{line_for, ended, local_text, start_text, arc_text, free_text, role_text, require_text, kind_lines_over, kind_text, start_name, start_word, process_text, edge_text, spec_text};
 ghost use Rattle.ctl_text.specs.Text.{IsSpecText};
 ghost use Rattle.ctl_text.specs.Value.{process_at, kind_at};
 
@@ -65,7 +66,7 @@ fn write_role(role: &Role, into: &mut Vec<u8>) -> Result<(), AllocError>
 {
     write_role_head(role.name(), into)?;
     write_locals(role.locals(), into)?;
-    write_start(role.locals(), role.start(), into)?;
+    write_starts(role.locals(), role.starts(), into)?;
     write_arcs(role.locals(), role.arcs(), into)?;
     into.extend_from_slice(b"end\n")?;
     Ok(())
@@ -99,8 +100,17 @@ fn write_name(name: &Name, into: &mut Vec<u8>) -> Result<(), AllocError>
     Ok(())
 }
 
+fn write_starts(names: &[Name], starts: &[u8], into: &mut Vec<u8>) -> Result<(), AllocError>
+    ensures { OnOk result (into.new.items ≡ into.old.items ++ flat_map ended (map (start_text names.now) starts.now)) }
+{
+    for start in starts {
+        write_start(names, *start, into)?;
+    }
+    Ok(())
+}
+
 fn write_start(names: &[Name], start: u8, into: &mut Vec<u8>) -> Result<(), AllocError>
-    ensures { OnOk result (into.new.items ≡ into.old.items ++ ended (line_for (start_line (name_at names.now start)))) }
+    ensures { OnOk result (into.new.items ≡ into.old.items ++ ended (start_text names.now start)) }
 {
     into.extend_from_slice(b"start ")?;
     push_name(names, start, into)?;
@@ -241,8 +251,35 @@ fn write_process(roles: &[Role], process: &Process, into: &mut Vec<u8>) -> Resul
     into.extend_from_slice(process.name.as_str().as_bytes())?;
     into.extend_from_slice(b" ")?;
     write_role_name(roles, process.role, into)?;
+    write_process_start(roles, process, into)?;
     into.extend_from_slice(b"\n")?;
     Ok(())
+}
+
+/// Appends the name of the local state where the process begins, behind a space, and nothing where that is its role's first start.
+fn write_process_start(
+    roles: &[Role],
+    process: &Process,
+    into: &mut Vec<u8>,
+) -> Result<(), AllocError>
+    ensures { OnOk result (into.new.items ≡ into.old.items ++ start_word (start_name (role_at roles.now process.now.role) process.now.start)) }
+{
+    if process.start == first_start_at(roles, process.role) {
+        return Ok(());
+    }
+    into.extend_from_slice(b" ")?;
+    push_name(locals_at(roles, process.role), process.start, into)?;
+    Ok(())
+}
+
+/// The first start of a role by its number, and 0 past the end.
+fn first_start_at(roles: &[Role], role: u8) -> u8
+    ensures { result ≡ first_start (role_at roles.now role) }
+{
+    match roles.get(role as usize) {
+        Some(role) => role.start(),
+        None => 0,
+    }
 }
 
 fn write_edges(

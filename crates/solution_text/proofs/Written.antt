@@ -18,7 +18,8 @@ use Rattle.ctl_text.specs.FormulaText.{Names, name_at}
 use Rattle.ctl_text.specs.SoundValue.{IsNamedRole, IsNamedKind, IsSoundValue}
 use Rattle.ctl_text.specs.Value.{SpecParts}
 use Rattle.ctl_text.proofs.KindsAgain.{role_named}
-use Rattle.ctl_text.proofs.RolesAgain.{number_again, use_free}
+use Rattle.ctl_text.proofs.Named.{number_again}
+use Rattle.ctl_text.proofs.RolesAgain.{use_free}
 use Rattle.strict_text.specs.Lines.{Line, lines_of}
 use Rattle.strict_text.specs.Spaced.{spaced, IsWord, AreWords}
 use Rattle.strict_text.proofs.NumberLaws.{decimal_word}

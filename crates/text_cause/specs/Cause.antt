@@ -1,7 +1,7 @@
 -- Of the causes that stand against a line, the one that is named.
 use Rattle.std.specs.Prelude.{ℕ, ◌≡◌, ◌<◌, ◌⊎◌, List, codes}
 use Rattle.text_cause.specs.declared.cause.TextCause.{TextCause}
-use Rattle.text_cause.specs.declared.cause.TextCause.TheVariants.{NotText, BadHead, Long, BadLine, UnknownName, Twice, SelfArc, NoArc, TooMany, ClosureOver, SelfEdge, EdgeTwice, DegreeOver, RoleMismatch, NotAPair, NotRising, Disagree}
+use Rattle.text_cause.specs.declared.cause.TextCause.TheVariants.{NotText, BadHead, Long, BadLine, UnknownName, Twice, SelfArc, NoArc, TooMany, ClosureOver, SelfEdge, EdgeTwice, DegreeOver, RoleMismatch, NotAPair, NotRising, Disagree, NotAStart}
 
 -- the order of the causes
 abbrev pub cause_no : TextCause → ℕ
@@ -22,6 +22,7 @@ cause_no RoleMismatch = 14
 cause_no (NotAPair fault) = 15
 cause_no NotRising = 16
 cause_no Disagree = 17
+cause_no NotAStart = 18
 
 -- the name of a cause, without its fields
 abbrev pub cause_word : TextCause → List ℕ
@@ -42,6 +43,7 @@ cause_word RoleMismatch = codes "RoleMismatch"
 cause_word (NotAPair fault) = codes "NotAPair"
 cause_word NotRising = codes "NotRising"
 cause_word Disagree = codes "Disagree"
+cause_word NotAStart = codes "NotAStart"
 
 -- of the causes that stand it has the lowest number
 pub record IsLowest (against : TextCause → Type 0) (cause : TextCause) : Type 0 where

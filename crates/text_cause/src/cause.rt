@@ -22,7 +22,7 @@ pub enum TextCause {
     /// A name, or a number that names something, names nothing.
     #[error("UnknownName")]
     UnknownName,
-    /// A name of one name space, an arc, or the shape of a star is declared again.
+    /// A name of one name space, a start of a role, an arc, or the shape of a star is declared again.
     #[error("Twice")]
     Twice,
     /// An arc has the same local state at both ends.
@@ -58,6 +58,9 @@ pub enum TextCause {
     /// The pair states of a member have different local states of the centre.
     #[error("Disagree")]
     Disagree,
+    /// A process begins in a local state of its role that is none of the role's starts.
+    #[error("NotAStart")]
+    NotAStart,
 }
 
 /// Why a text is refused.
@@ -93,5 +96,6 @@ pub fn cause_word(cause: TextCause) -> &'static str
         TextCause::NotAPair { .. } => "NotAPair",
         TextCause::NotRising => "NotRising",
         TextCause::Disagree => "Disagree",
+        TextCause::NotAStart => "NotAStart",
     }
 }

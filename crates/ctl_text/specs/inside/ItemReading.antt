@@ -16,12 +16,13 @@ two_at word a =
 abbrev pub three_at : List ℕ → List ℕ → List ℕ → Option Said
 three_at word a b =
     if bytes_eq word (codes "arc") then Some (arc_line a b false) else
-    if bytes_eq word (codes "process") then Some (process_line a b) else None
+    if bytes_eq word (codes "process") then Some (process_line a b None) else None
 
 abbrev pub four_at : List ℕ → List ℕ → List ℕ → List ℕ → Option Said
 four_at word a b c =
     if bytes_eq word (codes "arc") && bytes_eq c (codes "free") then Some (arc_line a b true) else
     if bytes_eq word (codes "kind") then Some (kind_line a b c) else
+    if bytes_eq word (codes "process") then Some (process_line a b (Some c)) else
     if bytes_eq word (codes "edge") then Some (edge_line a b c) else None
 
 abbrev pub item_at : List (List ℕ) → Option Said

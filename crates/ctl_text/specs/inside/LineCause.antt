@@ -1,5 +1,5 @@
 -- What stands against each kind of line, as the code judges it, cause by cause; `Cause` states it by causes.
-use Rattle.std.specs.Prelude.{ℕ, ◌≡◌, ◌≤◌, ◌⊎◌, List, length, Contains}
+use Rattle.std.specs.Prelude.{ℕ, ◌≡◌, ◌≤◌, ◌⊎◌, Option, List, length, Contains}
 use Rattle.pair_structure.specs.declared.limits.TheConstants.{MAX_ARCS, MAX_LOCALS}
 use Rattle.interconnection.specs.declared.limits.TheConstants.{MAX_KINDS, MAX_PROCESSES, MAX_ROLES}
 use Rattle.pair_structure.specs.declared.side.LocalArc.{LocalArc}
@@ -9,16 +9,20 @@ use Rattle.pair_structure.specs.Parts.{role_at}
 use Rattle.interconnection.specs.declared.parts.Process.{Process}
 use Rattle.interconnection.specs.declared.parts.Edge.{Edge}
 use Rattle.text_cause.specs.declared.cause.TextCause.{TextCause}
-use Rattle.text_cause.specs.declared.cause.TextCause.TheVariants.{UnknownName, Twice, SelfArc, NoArc, TooMany, ClosureOver, SelfEdge, EdgeTwice, DegreeOver, RoleMismatch}
-use Rattle.ctl_text.specs.Cause.{UseStands, IsFirstStuck, IsFirstCrowded, AreOfKind}
+use Rattle.text_cause.specs.declared.cause.TextCause.TheVariants.{UnknownName, Twice, SelfArc, NoArc, TooMany, ClosureOver, SelfEdge, EdgeTwice, DegreeOver, RoleMismatch, NotAStart}
+use Rattle.ctl_text.specs.Cause.{UseStands, IsFirstStuck, IsFirstCrowded, AreOfKind, IsUnknownStart, IsNoStart}
 use Rattle.ctl_text.specs.Required.{tokens_in, AreKnownOver, IsClosureOver}
 use Rattle.ctl_text.specs.Item.{Said, role_line, local_line, start_line, arc_line, kind_line, require_line, end_line, process_line, edge_line}
-use Rattle.ctl_text.specs.Value.{role_names, kind_names, process_names, number_in, AreJoined}
-use Rattle.ctl_text.specs.State.{Group, in_locals, in_arcs, in_kind, State}
+use Rattle.ctl_text.specs.Value.{role_names, kind_names, process_names, number_in, AreJoined, role_named}
+use Rattle.ctl_text.specs.State.{Group, in_role, in_kind, State}
 
 -- against a name that is declared below these, of which there may be so many
 abbrev pub NameStands : List (List ℕ) → ℕ → List ℕ → TextCause → Type 0
 NameStands names most name cause = ((cause ≡ Twice) × Contains names name) ⊎ ((cause ≡ TooMany most) × (most ≤ length names))
+
+-- against a start of an open role with these starts
+abbrev pub StartStands : List (List ℕ) → List ℕ → List ℕ → TextCause → Type 0
+StartStands names starts name cause = UseStands names name cause ⊎ ((cause ≡ Twice) × Contains starts (number_in names name))
 
 -- against an arc between local states of an open role with these arcs
 abbrev pub ArcStands : List (List ℕ) → List LocalArc → List ℕ → List ℕ → TextCause → Type 0
@@ -45,9 +49,16 @@ ClauseStands roles k words cause = (cause ≡ UnknownName) × (AreKnownOver (rol
 abbrev pub KindEndStands : List RoleParts → PairSpec → TextCause → Type 0
 KindEndStands roles k cause = (cause ≡ ClosureOver) × IsClosureOver (role_at roles k.role_a) (role_at roles k.role_b) k.clauses
 
--- against a process of a role
-abbrev pub ProcessStands : List RoleParts → List Process → List ℕ → List ℕ → TextCause → Type 0
-ProcessStands roles processes name r cause = UseStands (role_names roles) r cause ⊎ NameStands (process_names processes) MAX_PROCESSES name cause
+-- against a process of this role, by its name and the local state where it is to begin
+abbrev pub BeginStands : RoleParts → List Process → List ℕ → Option (List ℕ) → TextCause → Type 0
+BeginStands r processes name start cause =
+    ((cause ≡ UnknownName) × IsUnknownStart r start)
+    ⊎ (NameStands (process_names processes) MAX_PROCESSES name cause
+    ⊎ ((cause ≡ NotAStart) × IsNoStart r start))
+
+-- against a process
+abbrev pub ProcessStands : List RoleParts → List Process → List ℕ → List ℕ → Option (List ℕ) → TextCause → Type 0
+ProcessStands roles processes name r start cause = UseStands (role_names roles) r cause ⊎ BeginStands (role_named roles r) processes name start cause
 
 -- against an edge between two processes, all by their numbers
 abbrev pub JoinStands : List Process → List PairSpec → List Edge → ℕ → ℕ → ℕ → TextCause → Type 0
@@ -66,15 +77,15 @@ EdgeStands processes kinds edges p q kind cause =
     ⊎ JoinStands processes kinds edges (number_in (process_names processes) p) (number_in (process_names processes) q) (number_in (kind_names kinds) kind) cause))
 
 abbrev pub LocalBlocks : Group → List ℕ → TextCause → Type 0
-LocalBlocks (in_locals n names) name cause = NameStands names MAX_LOCALS name cause
+LocalBlocks (in_role r) name cause = NameStands r.locals MAX_LOCALS name cause
 LocalBlocks group name cause = ⊥
 
 abbrev pub StartBlocks : Group → List ℕ → TextCause → Type 0
-StartBlocks (in_locals n names) name cause = UseStands names name cause
+StartBlocks (in_role r) name cause = StartStands r.locals r.starts name cause
 StartBlocks group name cause = ⊥
 
 abbrev pub ArcBlocks : Group → List ℕ → List ℕ → TextCause → Type 0
-ArcBlocks (in_arcs r) p q cause = ArcStands r.locals r.arcs p q cause
+ArcBlocks (in_role r) p q cause = ArcStands r.locals r.arcs p q cause
 ArcBlocks group p q cause = ⊥
 
 abbrev pub ClauseBlocks : List RoleParts → Group → List (List ℕ) → TextCause → Type 0
@@ -82,7 +93,7 @@ ClauseBlocks roles (in_kind k) words cause = ClauseStands roles k words cause
 ClauseBlocks roles group words cause = ⊥
 
 abbrev pub EndBlocks : List RoleParts → Group → TextCause → Type 0
-EndBlocks roles (in_arcs r) cause = RoleEndStands r.locals r.arcs cause
+EndBlocks roles (in_role r) cause = RoleEndStands r.locals r.arcs cause
 EndBlocks roles (in_kind k) cause = KindEndStands roles k cause
 EndBlocks roles group cause = ⊥
 
@@ -95,6 +106,6 @@ LineBlocks s (arc_line p q free) cause = ArcBlocks s.group p q cause
 LineBlocks s (kind_line name a b) cause = KindStands s.parts.roles s.parts.kinds name a b cause
 LineBlocks s (require_line words form) cause = ClauseBlocks s.parts.roles s.group words cause
 LineBlocks s end_line cause = EndBlocks s.parts.roles s.group cause
-LineBlocks s (process_line name r) cause = ProcessStands s.parts.roles s.parts.processes name r cause
+LineBlocks s (process_line name r start) cause = ProcessStands s.parts.roles s.parts.processes name r start cause
 LineBlocks s (edge_line p q kind) cause = EdgeStands s.parts.processes s.parts.kinds s.parts.edges p q kind cause
 LineBlocks s item cause = ⊥

@@ -7,27 +7,34 @@ use Rattle.pair_structure.specs.Role.{JoinsTwo, RoleParts}
 use Rattle.interconnection.specs.Graph.{degree_of}
 use Rattle.interconnection.specs.Network.{AreLawful}
 use Rattle.ctl_text.specs.Value.{kind_ends}
-use Rattle.ctl_text.specs.State.{State, Group, in_locals, in_arcs, in_kind}
+use Rattle.ctl_text.specs.State.{State, Group, in_role, in_kind}
 
 pub record AreLocals (names : List (List ℕ)) : Type 0 where
   pub few_locals : length names ≤ MAX_LOCALS
   pub names_differ : AllPairs (λ x y. x ≢ y) names
+
+pub record AreStarts (count : ℕ) (starts : List ℕ) : Type 0 where
+  pub within : All (λ start. start < count) starts
+  pub starts_differ : AllPairs (λ x y. x ≢ y) starts
 
 pub record AreArcs (count : ℕ) (made : List LocalArc) : Type 0 where
   pub few_arcs : length made ≤ MAX_ARCS
   pub joins : All (JoinsTwo count) made
   pub ends_differ : AllPairs (λ (x y : LocalArc). x.from ≡ y.from → x.to ≡ y.to → ⊥) made
 
--- all that makes a role, but for an arc that leaves each local state
+-- all that makes a role, but for a start and an arc that leaves each local state
+pub record IsSoundRole (r : RoleParts) : Type 0 where
+  pub locals : AreLocals r.locals
+  pub starts : AreStarts (length r.locals) r.starts
+  pub arcs : AreArcs (length r.locals) r.arcs
+
 abbrev pub IsSound : Group → Type 0
-IsSound (in_locals name names) = AreLocals names
-IsSound (in_arcs r) = AreLocals r.locals × (r.start < length r.locals) × AreArcs (length r.locals) r.arcs
+IsSound (in_role r) = IsSoundRole r
 IsSound group = Unit {0}
 
 -- how many roles, and how many kinds, are open
 abbrev pub open_roles : Group → ℕ
-open_roles (in_locals name names) = 1
-open_roles (in_arcs r) = 1
+open_roles (in_role r) = 1
 open_roles group = 0
 
 abbrev pub open_kinds : Group → ℕ
@@ -39,8 +46,12 @@ abbrev pub HasItsRoles : List RoleParts → Group → Type 0
 HasItsRoles roles (in_kind k) = (k.role_a < length roles) × (k.role_b < length roles)
 HasItsRoles roles group = Unit {0}
 
+abbrev pub HasStart : RoleParts → Type 0
+HasStart r = 0 < length r.starts
+
 pub record IsSoundState (s : State) : Type 0 where
   pub few_roles : length s.parts.roles + open_roles s.group ≤ MAX_ROLES
+  pub starts : All HasStart s.parts.roles
   pub few_kinds : length s.parts.kinds + open_kinds s.group ≤ MAX_KINDS
   pub few_processes : length s.parts.processes ≤ MAX_PROCESSES
   pub group : IsSound s.group

@@ -1,13 +1,16 @@
 -- What the program's values say, without where they lie in memory.
 use Rattle.std.specs.Prelude.{map}
+use Rattle.std.specs.Option.{option_copied}
 use Rattle.ctl_form.specs.Form.{form_of}
+use Rattle.pair_structure.specs.Role.{RoleParts}
 use Rattle.ctl_text.specs.declared.item.Item.{Item}
 use Rattle.ctl_text.specs.declared.item.Item.TheVariants.{Head, Role, Local, Start, Arc, Kind, End, Process, Edge, Done}
+use Rattle.ctl_text.specs.declared.open_role.OpenRole.{OpenRole}
 use Rattle.ctl_text.specs.declared.place.Place.{Place}
-use Rattle.ctl_text.specs.declared.place.Place.TheVariants.{BeforeHead, AmongRoles, InLocals, InArcs, AmongKinds, InKind, AmongProcesses, AmongEdges, AfterDone}
+use Rattle.ctl_text.specs.declared.place.Place.TheVariants.{BeforeHead, AmongRoles, InRole, AmongKinds, InKind, AmongProcesses, AmongEdges, AfterDone}
 use Rattle.ctl_text.specs.declared.place.Reader.{Reader}
 use Rattle.ctl_text.specs.Item.{Said, head_line, role_line, local_line, start_line, arc_line, kind_line, end_line, process_line, edge_line, done_line}
-use Rattle.ctl_text.specs.State.{Group, before_head, among_roles, in_locals, in_arcs, among_kinds, in_kind, among_processes, among_edges, after_done, State}
+use Rattle.ctl_text.specs.State.{Group, before_head, among_roles, in_role, among_kinds, in_kind, among_processes, among_edges, after_done, State}
 
 abbrev pub said : Item → Said
 said Head = head_line
@@ -17,15 +20,17 @@ said (Start name) = start_line name.now
 said (Arc from to free) = arc_line from.now to.now free
 said (Kind name a b) = kind_line name.now a.now b.now
 said End = end_line
-said (Process name r) = process_line name.now r.now
+said (Process name r start) = process_line name.now r.now (option_copied start)
 said (Edge a b kind) = edge_line a.now b.now kind.now
 said Done = done_line
+
+abbrev pub parts_of : OpenRole → RoleParts
+parts_of r = record { name = r.name; locals = r.locals.items; starts = r.starts.items; arcs = r.arcs.items }
 
 abbrev pub group_of : Place → Group
 group_of BeforeHead = before_head
 group_of AmongRoles = among_roles
-group_of (InLocals name names) = in_locals name names.items
-group_of (InArcs name names start made) = in_arcs (record { name = name; locals = names.items; start = start; arcs = made.items })
+group_of (InRole role) = in_role (parts_of role)
 group_of AmongKinds = among_kinds
 group_of (InKind name a b clauses) = in_kind (record { name = name; role_a = a; role_b = b; clauses = map form_of clauses.items })
 group_of AmongProcesses = among_processes

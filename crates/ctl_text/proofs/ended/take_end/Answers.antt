@@ -1,16 +1,15 @@
 use Rattle.std.proofs.Common.{map, ap}
-use Rattle.pair_structure.specs.Role.{RoleParts}
 use Rattle.ctl_form.specs.declared.pair_spec.PairSpec.{PairSpec}
 use Rattle.ctl_form.specs.Form.{form_of}
-use Rattle.ctl_text.specs.inside.View.{state_of}
+use Rattle.ctl_text.specs.inside.View.{parts_of, state_of}
 use Rattle.ctl_text.proofs.SaidTaken.{role_ended, with_clauses, kind_ended}
 use Rattle.ctl_text.proofs.ended.take_end.Goals as goal
 
-pub returns-in_ok-reader-in-InArcs-clause-taken : goal.returns-in_ok-reader-in-InArcs-clause-taken
-returns-in_ok-reader-in-InArcs-clause-taken c =
-    let r : RoleParts = record { name = c.in-InArcs.name; locals = c.in-InArcs.locals.items; start = c.in-InArcs.start; arcs = c.in-InArcs.arcs.items } in
-    let sound = rw c.in-InArcs.is at c.requires.sound in
-    rw c.in-InArcs.is (role_ended (state_of c.args.reader).parts r c.in_ok-reader-in-InArcs.field-0 sound c.in_ok-reader-in-InArcs.ensures.free c.in_ok-reader-in-InArcs.ensures.grown)
+pub returns-in_ok-reader-in-InRole-clause-taken : goal.returns-in_ok-reader-in-InRole-clause-taken
+returns-in_ok-reader-in-InRole-clause-taken c =
+    let sound = rw c.in-InRole.is at c.requires.sound in
+    let may = rw c.in-InRole.is at c.requires.may in
+    rw c.in-InRole.is (role_ended (state_of c.args.reader).parts (parts_of c.in-InRole.role) c.in_ok-reader-in-InRole.field-0 sound may c.in_ok-reader-in-InRole.ensures.free c.in_ok-reader-in-InRole.ensures.grown)
 
 pub returns-in_ok-reader-in-InKind-clause-taken : goal.returns-in_ok-reader-in-InKind-clause-taken
 returns-in_ok-reader-in-InKind-clause-taken c =

@@ -4,4 +4,4 @@ use Rattle.ctl_text.proofs.said.take_role.Goals as goal
 
 pub returns-clause-taken : goal.returns-clause-taken
 returns-clause-taken c =
-    role_taken (state_of c.args.reader) (state_of c.opened.result) c.args.name.now _ _ _ c.roles.ensures c.in_ok-name.ensures c.new-locals.ensures.items c.opened.ensures c.requires.sound c.in_default.ensures.none
+    role_taken (state_of c.args.reader) (state_of c.opened.result) c.args.name.now _ _ _ c.roles.ensures c.in_ok-name_of.ensures c.new-role.ensures c.opened.ensures c.requires.sound c.in_default.ensures.none
