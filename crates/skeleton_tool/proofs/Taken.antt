@@ -1,18 +1,18 @@
 -- Which files a command may ask for, and the texts of what is written in pieces.
 use Rattle.std.proofs.Common.{ℕ, ◌≡◌, List, [], ◌∷◌, ◌++◌, All, Some, arith, sym, ap, ◌∙◌, append_assoc}
 use Rattle.pair_structure.specs.Structure.{Structure}
-use Rattle.ctl_form.specs.Kind.{Solves}
 use Rattle.ctl_text.specs.Value.{SpecParts}
 use Rattle.solution_text.specs.SolutionText.{solution_text}
 use Rattle.solution_text.specs.Text.{IsSolutionText}
-use Rattle.skeleton_tool.specs.Answer.{IsSolved}
+use Rattle.skeleton_tool.specs.Answer.{AreLeast, IsSolved}
 use Rattle.skeleton_tool.specs.Command.{Command, synth, asked_files, spec_limit, solution_limit, journal_limit}
 
 -- the text that was written for structures that solve is the answer
-pub solved_text : (v : SpecParts) (ms sol : List Structure) (old new : List ℕ) → Solves v.roles v.kinds ms → sol ≡ ms → old ≡ [] → new ≡ old ++ solution_text v.roles v.kinds sol → IsSolutionText v.roles v.kinds (solution_text v.roles v.kinds sol) sol → IsSolved v.roles v.kinds new
-solved_text v ms sol old new solves same empty written text = record {
+pub solved_text : (v : SpecParts) (ms sol : List Structure) (old new : List ℕ) → AreLeast v.roles v.kinds ms → sol ≡ ms → old ≡ [] → new ≡ old ++ solution_text v.roles v.kinds sol → IsSolutionText v.roles v.kinds (solution_text v.roles v.kinds sol) sol → IsSolved v.roles v.kinds new
+solved_text v ms sol old new least same empty written text = record {
   structures = ms;
-  solves = solves;
+  solves = least.solve;
+  shrunk = least.shrunk;
   is_text = rw (written, empty, sym same) text;
 }
 

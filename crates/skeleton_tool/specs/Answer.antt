@@ -1,5 +1,5 @@
 -- What a call answers: a status, the text that belongs to it, and when it may come.
-use Rattle.std.specs.Prelude.{ℕ, ◌≡◌, ◌<◌, ◌⊎◌, Option, Some, None, List, ◌++◌, codes, length}
+use Rattle.std.specs.Prelude.{ℕ, ◌≡◌, ◌<◌, ◌⊎◌, Option, Some, None, List, ◌++◌, All, codes, length}
 use Rattle.edge_io.specs.Counts.{Rose}
 use Rattle.edge_io.specs.Told.{Appends, AppendsPrefix}
 use Rattle.pair_structure.specs.Role.{RoleParts}
@@ -7,6 +7,7 @@ use Rattle.pair_structure.specs.Structure.{Structure}
 use Rattle.ctl_form.specs.declared.pair_spec.PairSpec.{PairSpec}
 use Rattle.ctl_form.specs.Kind.{SatisfiesKind, Solves}
 use Rattle.ctl_text.specs.Value.{SpecParts, kind_at}
+use Rattle.pair_quotient.specs.Quotient.{IsShrunk}
 use Rattle.ctl_text.specs.Text.{IsSpecText, IsRefused}
 use Rattle.solution_text.specs.Text.{IsSolutionText, IsRefused as IsSolutionRefused}
 use Rattle.skeleton_tool.specs.declared.status.Status.{Status}
@@ -27,10 +28,16 @@ spec_grammar = record { word = codes "spec"; limit = spec_limit; is_text = IsSpe
 abbrev pub solution_grammar : SpecParts → Grammar (List Structure)
 solution_grammar v = record { word = codes "solution"; limit = solution_limit; is_text = IsSolutionText v.roles v.kinds; is_refused = IsSolutionRefused v.roles v.kinds }
 
--- the text of structures that solve these kinds
+-- structures that solve these kinds, in none of which two states are bisimilar
+pub record AreLeast (roles : List RoleParts) (kinds : List PairSpec) (structures : List Structure) : Type 0 where
+  pub solve : Solves roles kinds structures
+  pub shrunk : All IsShrunk structures
+
+-- the text of structures that solve these kinds, in none of which two states are bisimilar
 pub record IsSolved (roles : List RoleParts) (kinds : List PairSpec) (text : List ℕ) : Type 0 where
   pub structures : List Structure
   pub solves : Solves roles kinds structures
+  pub shrunk : All IsShrunk structures
   pub is_text : IsSolutionText roles kinds text structures
 
 -- no structure satisfies this kind, and each kind before it has one

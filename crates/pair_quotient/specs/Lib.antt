@@ -1,0 +1,3 @@
+pub mod Bisimulation
+pub mod Quotient
+pub mod inside
