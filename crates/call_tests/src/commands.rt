@@ -86,21 +86,6 @@ fn answers_each_command(rt: HostRuntime) -> Result<(), Fail> {
     expect(&rt, rt.alloc(), CALLS, told)
 }
 
-/// `synth` gives a solution, and `skel` its commands: how these begin.
-fn long_told(alloc: Global) -> Result<String, Fail> {
-    let made = told(alloc, "9 9 synth spec")?;
-    let shown = told(alloc, "9 9 skel spec sol")?;
-    let first = made.as_str().get(..29).unwrap_or("");
-    let second = shown.as_str().get(..35).unwrap_or("");
-    Ok(format!(in alloc; "{first}; {second}")?)
-}
-
-#[test]
-fn answers_with_long_texts(rt: HostRuntime) -> Result<(), Fail> {
-    let wanted = "0 solution 1/kind k/state N N; 0 skeleton 1/kind k/side a/arc N T/";
-    agree(&rt, long_told(rt.alloc()), wanted)
-}
-
 /// The statuses of two calls on one shelf, one after the other, by a caller that knows the shelf by its trait alone.
 fn planned_twice<S: Shelf, K: Sink>(
     alloc: Global,

@@ -5,7 +5,7 @@ ghost use Rattle.firing_journal.specs.Journal.{JournalFits};
 use crate::table::agree;
 use conjunctive_compose::{System, Wish};
 use firing_journal::{Journal, Replay, project, read_journal, replay, write_journal};
-use samples::{LAMP, TURN, system, to_lines, to_slashes};
+use samples::{EITHER, EITHER_TURN, LAMP, TURN, system, to_lines, to_slashes};
 use std::alloc::Global;
 use std::test::Fail;
 
@@ -33,18 +33,24 @@ fn writes_what_it_reads(rt: HostRuntime) -> Result<(), Fail> {
     agree(&rt, read_told(rt.alloc()), READ)
 }
 
-/// The second process moves first, and then the other.
-fn made(alloc: Global) -> Result<Journal, Fail> {
+/// The second process is switched on, and then the other.
+const BOTH_ON: [(u32, u32); 2] = [(1, 0), (0, 0)];
+
+/// The first process is switched on, and then the other off.
+const ON_AND_OFF: [(u32, u32); 2] = [(0, 0), (1, 1)];
+
+/// The journal of these firings, each a process and its arc.
+fn made(alloc: Global, firings: &[(u32, u32)]) -> Result<Journal, Fail> {
     let mut journal = Journal::new(alloc);
-    for process in [1, 0] {
-        let (arc, pick) = (0, 5);
+    for (process, arc) in firings {
+        let (process, arc, pick) = (*process, *arc, 5);
         journal.push(3, Wish { process, arc, pick })?;
     }
     Ok(journal)
 }
 
 fn pushed_told(alloc: Global) -> Result<String, Fail> {
-    let journal = made(alloc)?;
+    let journal = made(alloc, &BOTH_ON)?;
     let text = written(alloc, &journal)?;
     Ok(format!(in alloc; "{} {text}", journal.entries().len())?)
 }
@@ -71,17 +77,29 @@ fn projected(alloc: Global, system: &System, journal: &Journal) -> Result<String
     }
 }
 
-fn projected_told(alloc: Global) -> Result<String, Fail> {
-    let system = lamps(alloc)?;
-    let journal = made(alloc)?;
-    if !journal.fits(&system) {
+fn projected_told(alloc: Global, system: &System, firings: &[(u32, u32)]) -> Result<String, Fail> {
+    let journal = made(alloc, firings)?;
+    if !journal.fits(system) {
         return Err(Fail::from("a journal that does not fit"));
     }
-    projected(alloc, &system, &journal)
+    projected(alloc, system, &journal)
 }
 
 #[test]
 fn projects_on_an_edge(rt: HostRuntime) -> Result<(), Fail> {
     let wanted = "[1, 1] [PairMove { side: B, state: 1 }, PairMove { side: A, state: 2 }]";
-    agree(&rt, projected_told(rt.alloc()), wanted)
+    let system = lamps(rt.alloc())?;
+    agree(&rt, projected_told(rt.alloc(), &system, &BOTH_ON), wanted)
+}
+
+/// One lamp is off and one is on.
+#[test]
+fn projects_from_the_state_where_the_edge_starts(rt: HostRuntime) -> Result<(), Fail> {
+    let wanted = "[1, 1] [PairMove { side: A, state: 3 }, PairMove { side: B, state: 2 }]";
+    let system = system(rt.alloc(), EITHER, EITHER_TURN, "0 0@1", "0-1:0")?;
+    agree(
+        &rt,
+        projected_told(rt.alloc(), &system, &ON_AND_OFF),
+        wanted,
+    )
 }

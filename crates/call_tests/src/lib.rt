@@ -10,21 +10,17 @@ mod journals;
 #[cfg(test)]
 mod kinds;
 #[cfg(test)]
-mod lines;
-#[cfg(test)]
 mod members;
 #[cfg(test)]
 mod names;
 #[cfg(test)]
 mod networks;
 #[cfg(test)]
+mod quotients;
+#[cfg(test)]
 mod roles;
 #[cfg(test)]
 mod shelves;
-#[cfg(test)]
-mod skeletons;
-#[cfg(test)]
-mod solutions;
 #[cfg(test)]
 mod spec_texts;
 #[cfg(test)]

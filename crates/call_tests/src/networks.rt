@@ -17,6 +17,8 @@ const FAULTS: &str = "0 | | |  = a network
 2 | 01 02 20 | 2 |  = an end of kind 1 is no role
 2 | 01 20 | |  = an end of kind 1 is no role
 2 | 01 | 0 2 3 | 0-3:0 = the role of process 1 is none
+2 | 01 | 0@1 2 | 0-1:0 = the role of process 1 is none
+2 | 01 | 0 1@1 0@2 | 0-0:0 = process 1 starts in none of the role's starts
 2 | 01 | 0 1 | 0-1:0 1-1:1 0-0:0 = edge 1 names no process or no kind
 2 | 01 | 0 1 | 2-1:0 = edge 0 names no process or no kind
 2 | 01 | 0 1 | 0-0:0 0-2:0 = edge 1 names no process or no kind

@@ -2,14 +2,14 @@
 
 use crate::table::{agree, expect};
 use pair_structure::{PairStructure, Role, Side, StructureFault, arrange};
-use samples::{BOUND, FIRST, LAMP, cut, labels, moves, role, structure};
+use samples::{BOUND, EITHER, FIRST, LAMP, any_role, cut, labels, moves, role, structure};
 use std::alloc::Global;
 use std::test::Fail;
 
 /// Labels and moves, and their first fault.
 const STRUCTURES: &str = "00 10 20 | 0a1 1a2 2a0 = 3 states
  | 0a0 = no state
-01 30 |  = state 0 is not labelled with the starts
+01 30 |  = the first states are not labelled with the starts
 00 22 30 03 | 0a9 = the label of state 2 names no local state
 00 20 | 0a1 0b2 = move 1 has an end that is no state
 00 10 | 2a1 = move 0 has an end that is no state
@@ -37,6 +37,33 @@ fn structure_told(alloc: Global, spelled: &str) -> Result<String, Fail> {
         alloc,
         PairStructure::make(alloc, &role, &role, &states, &moves),
     )
+}
+
+/// Over two lamps that may start in L and in R: labels and moves, and their first fault; then how many start states there are, of how many.
+const STARTS: &str = "00 01 10 11 | 0b1 1a3 2a0 3b2 = 4 of 4
+00 01 10 11 00 | 0b1 1a3 2a0 3b2 4b1 = 4 of 5
+00 01 10 | 0b1 1b0 2a0 = the first states are not labelled with the starts
+00 10 01 11 | 0a1 1b3 2b0 3a2 = the first states are not labelled with the starts
+00 01 10 00 | 0b1 1b0 2a0 3b1 = the first states are not labelled with the starts
+00 01 10 11 | 0b1 1a3 2a0 = no move leaves state 3
+ |  = no state";
+
+fn starts_told(alloc: Global, spelled: &str) -> Result<String, Fail> {
+    let role = any_role(alloc, EITHER)?;
+    let (states, steps) = cut(spelled, "|");
+    let states = labels(alloc, states)?;
+    let moves = moves(alloc, steps)?;
+    match PairStructure::make(alloc, &role, &role, &states, &moves) {
+        Ok(m) => {
+            Ok(format!(in alloc; "{} of {}", m.start_count(&role, &role), m.states().len())?)
+        }
+        Err(fault) => Ok(format!(in alloc; "{fault}")?),
+    }
+}
+
+#[test]
+fn begins_in_each_pair_of_starts(rt: HostRuntime) -> Result<(), Fail> {
+    expect(&rt, rt.alloc(), STARTS, starts_told)
 }
 
 #[test]

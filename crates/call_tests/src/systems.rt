@@ -4,7 +4,7 @@ ghost use Rattle.conjunctive_compose.specs.Whole.{IsProper};
 
 use crate::table::{agree, expect};
 use conjunctive_compose::{System, Whole, Wish};
-use samples::{BOUND, FIRST, FOUR, LAMP, TURN, cut, long, number, system};
+use samples::{BOUND, EITHER, EITHER_TURN, FIRST, FOUR, LAMP, TURN, cut, long, number, system};
 use std::alloc::Global;
 use std::test::Fail;
 
@@ -16,6 +16,13 @@ const PHILOSOPHERS: &str =
 
 const LAMPS: &str =
     "2*0 | 0-1:0 | 0/1/0 1/0/0 1/1/18446744073709551615 0/0/0 0/0/0 = Away { local: 0 }, Moved, Blocked { neighbour: 0 }, Moved, Away { local: 1 }, [1, 1] [0]";
+
+/// Lamps that start off or on, each in its own start.
+const EITHER_LAMPS: &str = "2*0 | 0-1:0 |  = [0, 0] [0]
+0 0@1 | 0-1:0 |  = [0, 1] [0]
+0 0@1 | 0-1:0 | 1/1/0 0/0/0 1/1/0 = Blocked { neighbour: 0 }, Moved, Moved, [1, 0] [0]
+0 0@1 | 1-0:0 | 0/0/0 1/1/0 = Blocked { neighbour: 1 }, Moved, [0, 0] [0]
+2*0@1 | 0-1:0 | 0/1/0 1/1/0 = Blocked { neighbour: 1 }, Moved, [1, 0] [0]";
 
 /// Of four permitted commands the picked one is taken.
 const PICKS: &str = "2*0 | 0-1:0 | 0/0/2 = Moved, [1, 0] [2]
@@ -63,6 +70,10 @@ fn lamps_told(alloc: Global, asked: &str) -> Result<String, Fail> {
     told(alloc, LAMP, TURN, asked)
 }
 
+fn either_told(alloc: Global, asked: &str) -> Result<String, Fail> {
+    told(alloc, EITHER, EITHER_TURN, asked)
+}
+
 fn picks_told(alloc: Global, asked: &str) -> Result<String, Fail> {
     told(alloc, BOUND, FOUR, asked)
 }
@@ -71,6 +82,7 @@ fn picks_told(alloc: Global, asked: &str) -> Result<String, Fail> {
 fn answers_wishes(rt: HostRuntime) -> Result<(), Fail> {
     expect(&rt, rt.alloc(), PHILOSOPHERS, philosophers_told)?;
     expect(&rt, rt.alloc(), LAMPS, lamps_told)?;
+    expect(&rt, rt.alloc(), EITHER_LAMPS, either_told)?;
     expect(&rt, rt.alloc(), PICKS, picks_told)
 }
 
@@ -120,21 +132,29 @@ fn pair_told(alloc: Global, system: &System, w: &Whole) -> Result<String, Fail>
     Ok(format!(in alloc; "{} {moves}", system.pair_state(w, 0))?)
 }
 
-/// Before and after the first lamp of side b is switched on.
-fn pairs_told(alloc: Global) -> Result<String, Fail> {
-    let system = system(alloc, LAMP, TURN, "2*0", "0-1:0")?;
+/// At the start, and after the wish.
+fn pairs_told(alloc: Global, system: &System, spelled: &str) -> Result<String, Fail> {
     let mut w = system.start(alloc)?;
-    let wish = wish("1/0/0");
+    let wish = wish(spelled);
     if !system.fits(wish) {
         return Err(Fail::from("no such arc"));
     }
-    let before = pair_told(alloc, &system, &w)?;
+    let before = pair_told(alloc, system, &w)?;
     system.step(&mut w, wish);
-    let after = pair_told(alloc, &system, &w)?;
+    let after = pair_told(alloc, system, &w)?;
     Ok(format!(in alloc; "{before}, {after}")?)
 }
 
+/// The lamp of side b is switched on.
 #[test]
 fn tells_the_pair_state(rt: HostRuntime) -> Result<(), Fail> {
-    agree(&rt, pairs_told(rt.alloc()), "0 4, 1 4")
+    let system = system(rt.alloc(), LAMP, TURN, "2*0", "0-1:0")?;
+    agree(&rt, pairs_told(rt.alloc(), &system, "1/0/0"), "0 4, 1 4")
+}
+
+/// The lamp of side b is on, and that of side a is switched on.
+#[test]
+fn starts_in_the_pair_state_of_both_starts(rt: HostRuntime) -> Result<(), Fail> {
+    let system = system(rt.alloc(), EITHER, EITHER_TURN, "0 0@1", "0-1:0")?;
+    agree(&rt, pairs_told(rt.alloc(), &system, "0/0/0"), "1 4, 3 4")
 }

@@ -6,8 +6,8 @@ use ctl_form::{BitRow, Formula, holds_at, solves};
 use ctl_text::Spec;
 use pair_structure::PairStructure;
 use samples::{
-    BOUND, FIRST, LAMP, LAST, PHIL, PRIOR, TURN, UNBARRED, first_kind, first_role, formula, pair,
-    role, structure,
+    BOUND, EITHER, FIRST, LAMP, LAST, PHIL, PRIOR, TURN, UNBARRED, any_role, first_kind,
+    first_role, formula, pair, role, structure,
 };
 use std::alloc::{AllocError, Global};
 use std::test::Fail;
@@ -149,4 +149,25 @@ fn structures_satisfy_kinds(rt: HostRuntime) -> Result<(), Fail> {
     expect(&rt, rt.alloc(), " = false false false", solved_by_unbarred)?;
     let repeated = "AG (a.T -> AF a.C); AG !(a.C & b.C) = true false true";
     expect(&rt, rt.alloc(), repeated, solved_when_repeated)
+}
+
+/// Clauses of lamps that may start in L and in R, and whether the structure that takes turns satisfies them: at each of its four start states.
+const BEGUN: &str = "AF (a.R & b.R) = true
+a.L = false
+EXb b.R = false
+a.L -> EX (b.R | a.R) = true
+EF (a.L & b.L); EF (a.R & b.R) = true";
+
+fn solved_from_each_start(alloc: Global, clauses: &str) -> Result<String, Fail> {
+    let spec = pair(alloc, LAMP, clauses)?;
+    let kind = spec.kinds().first().ok_or("a kind")?;
+    let role = any_role(alloc, EITHER)?;
+    let m = structure(alloc, &role, &role, "00 01 10 11 | 0b1 1a3 2a0 3b2")?;
+    let solved = solves(alloc, &m, kind, &role, &role)?;
+    Ok(format!(in alloc; "{solved}")?)
+}
+
+#[test]
+fn kinds_are_satisfied_at_each_start_state(rt: HostRuntime) -> Result<(), Fail> {
+    expect(&rt, rt.alloc(), BEGUN, solved_from_each_start)
 }

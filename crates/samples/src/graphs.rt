@@ -1,4 +1,5 @@
-//! Processes, spelled as their roles, `3*0` for three of role 0, and edges, spelled as two processes and a kind: `0-1:0`.
+//! Processes, spelled as their roles, `3*0` for three of role 0, and `0@1` for one that starts in local state 1 and not in 0; and edges,
+//! spelled as two processes and a kind: `0-1:0`.
 
 ghost use Rattle.std.specs.Prelude.{◌≤◌, length, IfOk};
 
@@ -12,11 +13,12 @@ use std::test::Fail;
 pub fn processes(alloc: Global, groups: &str) -> Result<Vec<Process>, Fail> {
     let mut processes = Vec::new(alloc);
     for group in groups.split_whitespace() {
-        let (count, role) = group.split_once('*').unwrap_or(("1", group));
-        let role = byte(role);
+        let (count, played) = group.split_once('*').unwrap_or(("1", group));
+        let (role, start) = cut(played, "@");
+        let (role, start) = (byte(role), byte(start));
         for _ in 0..number(count) {
             let name = Name::make(alloc, "p")?;
-            processes.push(Process { name, role })?;
+            processes.push(Process { name, role, start })?;
         }
     }
     Ok(processes)

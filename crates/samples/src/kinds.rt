@@ -1,6 +1,9 @@
 //! Roles, formulas, kinds and what is made of them, spelled as the lines of a specification. A role is its lines; clauses are parted by
 //! semicolons.
 
+ghost use Rattle.std.specs.Prelude.{IfOk};
+ghost use Rattle.pair_structure.specs.Role.{HasOneStart};
+
 use crate::texts::to_lines;
 use crate::words::cut;
 use closure_sets::Closure;
@@ -18,9 +21,20 @@ pub fn spec(alloc: Global, lines: &str) -> Result<Spec, Fail> {
 }
 
 /// The role of these lines.
-pub fn role(alloc: Global, lines: &str) -> Result<Role, Fail> {
+pub fn any_role(alloc: Global, lines: &str) -> Result<Role, Fail> {
     let spec = spec(alloc, lines)?;
     Ok(first_role(&spec)?.copy(alloc)?)
+}
+
+/// The role of these lines, which has one start.
+pub fn role(alloc: Global, lines: &str) -> Result<Role, Fail>
+    ensures { IfOk result HasOneStart }
+{
+    let role = any_role(alloc, lines)?;
+    if role.starts().len() != 1 {
+        return Err(Fail::from("one start"));
+    }
+    Ok(role)
 }
 
 /// The first role of a specification.

@@ -10,10 +10,13 @@ mod texts;
 mod words;
 
 pub use graphs::{edges, processes};
-pub use kinds::{closure, conjuncts, first_kind, first_role, formula, normal, pair, role, spec};
+pub use kinds::{
+    any_role, closure, conjuncts, first_kind, first_role, formula, normal, pair, role, spec,
+};
 pub use structures::{labels, moves, structure};
 pub use systems::system;
 pub use texts::{
-    BOUND, FAIR, FIRST, FOUR, LAMP, LAST, PHIL, PRIOR, TURN, UNBARRED, to_lines, to_slashes,
+    BOUND, EITHER, EITHER_TURN, FAIR, FIRST, FOUR, LAMP, LAST, PHIL, PRIOR, TURN, UNBARRED,
+    to_lines, to_slashes,
 };
 pub use words::{byte, cut, long, number};

@@ -3,7 +3,7 @@
 ghost use Rattle.std.specs.Prelude.{◌≡◌, ◌∷◌, [], IfOk};
 
 use crate::graphs::{edges, processes};
-use crate::kinds::role;
+use crate::kinds::any_role;
 use crate::structures::structure;
 use conjunctive_compose::System;
 use interconnection::Network;
@@ -19,7 +19,7 @@ pub fn system(
     groups: &str,
     joins: &str,
 ) -> Result<System, Fail> {
-    let role = role(alloc, lines)?;
+    let role = any_role(alloc, lines)?;
     let m = structure(alloc, &role, &role, spelled)?;
     if m.states().len() > 1000 {
         return Err(Fail::from("many states"));

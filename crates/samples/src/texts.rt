@@ -17,6 +17,9 @@ pub const UNBARRED: &str =
 /// The lamp, which is switched on and off.
 pub const LAMP: &str = "role lamp/local L/local R/start L/arc L R/arc R L/end/";
 
+/// The lamp that starts off or on.
+pub const EITHER: &str = "role lamp/local L/local R/start L/start R/arc L R/arc R L/end/";
+
 /// Philosophers never eat both, and each that waits comes to eat.
 pub const FAIR: &str = "AG !(a.C & b.C); AG (a.T -> AF a.C); AG (b.T -> AF b.C)";
 
@@ -37,6 +40,9 @@ pub const FOUR: &str = "00 10 10 10 10 20 | 0a1 0a2 0a3 0a4 1a5 2a5 3a5 4a5 5a0"
 
 /// Two lamps that are switched on in turn, and off in turn.
 pub const TURN: &str = "00 01 11 10 | 0b1 1a2 2b3 3a0";
+
+/// The same of lamps that start off or on: from each pair of starts.
+pub const EITHER_TURN: &str = "00 01 10 11 | 0b1 1a3 2a0 3b2";
 
 /// The text with a line feed for each `/`.
 pub fn to_lines(alloc: Global, text: &str) -> Result<String, Fail> {
