@@ -16,7 +16,7 @@ use Rattle.std.proofs.lemmas.List.Elements.{All-push}
 use Rattle.std.proofs.lemmas.List.Folds.{list_any-append}
 use Rattle.std.proofs.lemmas.Map.Lookups.{exact_bytes}
 use Rattle.std.proofs.lemmas.Nat.Bits.{same_from_bits_below, bit_at-lt}
-use Rattle.closure_sets.specs.Firsts.{Stands, IsNoted}
+use Rattle.closure_sets.specs.Firsts.{IsOneOf, IsNoted}
 use Rattle.closure_sets.specs.Found.{AreWords, HasWords, IsFound, row_cmp, set_of_row, sets_of}
 use Rattle.closure_sets.specs.Row.{Members, set_of}
 use Rattle.closure_sets.specs.declared.row.Row.{Row}
@@ -72,11 +72,11 @@ row_back r q = both_ways (is_at (row_cmp r) q) (is_at (row_cmp q) r) (λ e. turn
     turned : (x y : Row) → x ≡ y → is_at (row_cmp y) x ≡ true
     turned x y e = subst (λ (z : Row). is_at (row_cmp z) x ≡ true) e (row_itself x)
 
-any_stands : (rows : List Row) (row : Row) → list_any (is_at (row_cmp row)) rows ≡ true → Stands (sets_of rows) (set_of row.words)
+any_stands : (rows : List Row) (row : Row) → list_any (is_at (row_cmp row)) rows ≡ true → IsOneOf (sets_of rows) (set_of row.words)
 any_stands [] row e = absurd (let f : false ≡ true = e in cc)
 any_stands (r ∷ rs) row e = elim (or_cases (is_at (row_cmp row) r) (list_any (is_at (row_cmp row)) rs) e) [ inl f ↦ inl (let q : row ≡ r = row_exact row r f in ap (λ (x : Row). set_of x.words) (sym q)) | inr f ↦ inr (any_stands rs row f) ]
 
-stands_any : (rows : List Row) (row : Row) → All HasWords rows → HasWords row → Stands (sets_of rows) (set_of row.words) → list_any (is_at (row_cmp row)) rows ≡ true
+stands_any : (rows : List Row) (row : Row) → All HasWords rows → HasWords row → IsOneOf (sets_of rows) (set_of row.words) → list_any (is_at (row_cmp row)) rows ≡ true
 stands_any [] row all fits h = absurd h
 stands_any (r ∷ rs) row all fits (inl e) = or_left (is_at (row_cmp row) r) (list_any (is_at (row_cmp row)) rs) (test_of_words r row (words_same r.words row.words (all 0 r (omega arith)) fits e))
   where

@@ -3,7 +3,7 @@ use Rattle.std.proofs.Common.{ℕ, zero, suc, ◌≡◌, ◌-◌, inl, inr, Bool
 use Rattle.closure_sets.specs.ClosureParts.{ClosureParts, count}
 use Rattle.std.specs.Prelude.{if◌then◌else◌}
 use Rattle.closure_sets.specs.Expansion.{expand, expansion, ways, lowest, is_open, clashes, finish, at_lowest, rows_of, no_members}
-use Rattle.closure_sets.specs.Firsts.{Stands, IsNoted, AreNoted, AreFirsts}
+use Rattle.closure_sets.specs.Firsts.{IsOneOf, IsNoted, AreNoted, AreFirsts}
 use Rattle.closure_sets.specs.Full.{EachRow, Among}
 use Rattle.closure_sets.specs.Label.{part_of, is_plain}
 use Rattle.closure_sets.specs.Row.{Members, add, set_of}
@@ -40,7 +40,7 @@ among_last : (X : Members → Type 0) (rs : List Members) (q : Members) → X q 
 among_last X [] q x = inl x
 among_last X (r ∷ rs) q x = inr (among_last X rs q x)
 
-among_stands : (X : Members → Type 0) (rs : List Members) (q : Members) → Stands rs q → X q → Among X rs
+among_stands : (X : Members → Type 0) (rs : List Members) (q : Members) → IsOneOf rs q → X q → Among X rs
 among_stands X [] q h x = absurd h
 among_stands X (r ∷ rs) q (inl e) x = inl (subst X (sym e) x)
 among_stands X (r ∷ rs) q (inr h) x = inr (among_stands X rs q h x)

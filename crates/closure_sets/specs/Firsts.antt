@@ -3,12 +3,12 @@ use Rattle.std.specs.Prelude.{◌≡◌, ◌⊎◌, List, [], ◌∷◌, ◌++�
 use Rattle.closure_sets.specs.Full.{Among}
 use Rattle.closure_sets.specs.Row.{Members}
 
-abbrev pub Stands : List Members → Members → Type 0
-Stands rows row = Among (λ r. r ≡ row) rows
+abbrev pub IsOneOf : List Members → Members → Type 0
+IsOneOf rows row = Among (λ r. r ≡ row) rows
 
 -- a row is put behind the others unless it stands among them
 abbrev pub IsNoted : List Members → Members → List Members → Type 0
-IsNoted rows row after = (Stands rows row × (after ≡ rows)) ⊎ ((Stands rows row → ⊥) × (after ≡ rows ++ row ∷ []))
+IsNoted rows row after = (IsOneOf rows row × (after ≡ rows)) ⊎ ((IsOneOf rows row → ⊥) × (after ≡ rows ++ row ∷ []))
 
 -- the rows of a list are noted one after another
 abbrev pub AreNoted : List Members → List Members → List Members → Type 0

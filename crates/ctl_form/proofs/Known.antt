@@ -7,7 +7,8 @@ use Rattle.std.specs.BTreeMap.{BTreeMap, get, is_at}
 use Rattle.std.specs.Ordering.{is_eq}
 use Rattle.std.proofs.lemmas.Map.Lookups.{exact_bytes}
 use Rattle.pair_structure.specs.Structure.{Structure}
-use Rattle.ctl_form.specs.Code.{numbers, numbers_same}
+use Rattle.ctl_form.specs.Code.{numbers}
+use Rattle.ctl_form.specs.inside.CodeBack.{numbers_same}
 use Rattle.ctl_form.specs.Form.{Form}
 use Rattle.ctl_form.specs.inside.Known.{AreKnown, code_cmp}
 use Rattle.ctl_form.specs.Row.{IsTruthOf}

@@ -33,13 +33,13 @@ round_falls m all P Q zero s (inl q) = inr q
 round_falls m all P Q zero s (inr h) = inl h.0
 round_falls m all P Q (suc n) s h = stage_map m all P Q (Round m all true P Q (suc n)) (Round m all true P Q n) s (λ t _. round_falls m all P Q n t) h
 
-pub rises : (m : Structure) (all : Bool) (P Q : ℕ → Type 0) (n s : ℕ) → Round m all false P Q n s → Round m all false P Q (suc n) s
-rises m all P Q zero s q = inl q
-rises m all P Q (suc n) s h = stage_map m all P Q (Round m all false P Q n) (Round m all false P Q (suc n)) s (λ t _. rises m all P Q n t) h
+pub round_rises : (m : Structure) (all : Bool) (P Q : ℕ → Type 0) (n s : ℕ) → Round m all false P Q n s → Round m all false P Q (suc n) s
+round_rises m all P Q zero s q = inl q
+round_rises m all P Q (suc n) s h = stage_map m all P Q (Round m all false P Q n) (Round m all false P Q (suc n)) s (λ t _. round_rises m all P Q n t) h
 
 pub rises_to : (m : Structure) (all : Bool) (P Q : ℕ → Type 0) (s n k : ℕ) → n ≤ k → Round m all false P Q n s → Round m all false P Q k s
 rises_to m all P Q s n zero le h = let e : n ≡ zero = omega arith in subst (λ i. Round m all false P Q i s) e h
-rises_to m all P Q s n (suc k) le h = elim (dec_le n k) [ yes l ↦ rises m all P Q k s (rises_to m all P Q s n k l h) | no g ↦ let e : n ≡ suc k = omega (arith, g) in subst (λ i. Round m all false P Q i s) e h ]
+rises_to m all P Q s n (suc k) le h = elim (dec_le n k) [ yes l ↦ round_rises m all P Q k s (rises_to m all P Q s n k l h) | no g ↦ let e : n ≡ suc k = omega (arith, g) in subst (λ i. Round m all false P Q i s) e h ]
 
 -- a round that says what all rounds say together
 abbrev pub IsLast : Structure → Bool → Bool → (ℕ → Type 0) → (ℕ → Type 0) → ℕ → Type 0
@@ -57,7 +57,7 @@ strong_on m on all P Q k settled (suc n) s lt r = settled s lt (stage_map m all 
 -- after some round nothing changes
 pub last_round : (m : Structure) → GoesOn m → (all weak : Bool) (P Q : ℕ → Type 0) → AreDecided m P Q → (k : ℕ) × IsLast m all weak P Q k
 last_round m on all true P Q d = let u = falls_settle (Round m all true P Q) (length m.states) (decided_round m on all true P Q d) (λ k s _. round_falls m all P Q k s) 0 in (u.0, weak_on m on all P Q u.0 u.2)
-last_round m on all false P Q d = let u = falls_settle (λ k s. Round m all false P Q k s → ⊥) (length m.states) (λ k s lt. decided_not (decided_round m on all false P Q d k s lt)) (λ k s _ none r. none (rises m all P Q k s r)) 0 in
+last_round m on all false P Q d = let u = falls_settle (λ k s. Round m all false P Q k s → ⊥) (length m.states) (λ k s lt. decided_not (decided_round m on all false P Q d k s lt)) (λ k s _ none r. none (round_rises m all P Q k s r)) 0 in
     (u.0, strong_on m on all P Q u.0 (λ s lt. decided_stands (Round m all false P Q u.0 s) (Round m all false P Q (suc u.0) s) (decided_round m on all false P Q d u.0 s lt) (u.2 s lt)))
 
 at_last : (m : Structure) (all weak : Bool) (P Q : ℕ → Type 0) (k s : ℕ) → s < length m.states → IsLast m all weak P Q k → Decided (Round m all weak P Q k s) → Decided (InRounds m all weak P Q s)

@@ -16,9 +16,9 @@ outset_of : (m : Structure) (all : Bool) (P Q X : ℕ → Type 0) (s : ℕ) → 
 outset_of m all P Q X s (inl q) = inr q
 outset_of m all P Q X s (inr h) = inl h.0
 
-pub greatest : (m : Structure) → GoesOn m → (all : Bool) (P Q X : ℕ → Type 0) → ((s : ℕ) → s < length m.states → X s → Stage m all P Q X s) → (n s : ℕ) → s < length m.states → X s → Round m all true P Q n s
-greatest m on all P Q X h zero s lt x = outset_of m all P Q X s (h s lt x)
-greatest m on all P Q X h (suc n) s lt x = stage_map m all P Q X (Round m all true P Q n) s (λ t step. greatest m on all P Q X h n t (reaches_within m on s t step)) (h s lt x)
+pub round_greatest : (m : Structure) → GoesOn m → (all : Bool) (P Q X : ℕ → Type 0) → ((s : ℕ) → s < length m.states → X s → Stage m all P Q X s) → (n s : ℕ) → s < length m.states → X s → Round m all true P Q n s
+round_greatest m on all P Q X h zero s lt x = outset_of m all P Q X s (h s lt x)
+round_greatest m on all P Q X h (suc n) s lt x = stage_map m all P Q X (Round m all true P Q n) s (λ t step. round_greatest m on all P Q X h n t (reaches_within m on s t step)) (h s lt x)
 
 -- both kinds are what their stage says of them
 pub stage_out : (m : Structure) → GoesOn m → (all weak : Bool) (P Q : ℕ → Type 0) → AreDecided m P Q → (s : ℕ) → s < length m.states → InRounds m all weak P Q s → Stage m all P Q (InRounds m all weak P Q) s

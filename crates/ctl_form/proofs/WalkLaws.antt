@@ -12,7 +12,8 @@ use Rattle.std.proofs.lemmas.Map.Made.{is_member-Decides}
 use Rattle.std.proofs.lemmas.Slice.Eq.{slice_eq-Decides}
 use Rattle.pair_structure.specs.declared.side.Side.TheVariants.{A, B}
 use Rattle.ctl_form.specs.Closure.{brings, AreWithin, IsGrown}
-use Rattle.ctl_form.specs.Code.{numbers, numbers_same}
+use Rattle.ctl_form.specs.Code.{numbers}
+use Rattle.ctl_form.specs.inside.CodeBack.{numbers_same}
 use Rattle.ctl_form.specs.Form.{Form, truth, falsity, at, neg, both, either, implies, next, always, sometime, until}
 use Rattle.ctl_form.specs.Members.{form_at}
 use Rattle.ctl_form.specs.Walk.{same_form, has_form, noted, noted_until, walk}

@@ -7,11 +7,6 @@ abbrev pub IsPath : Structure → ℕ → List ℕ → Type 0
 IsPath m s [] = Unit {0}
 IsPath m s (t ∷ later) = Reaches m s t × IsPath m t later
 
--- the last state of a path that begins with s
-abbrev pub last_of : ℕ → List ℕ → ℕ
-last_of s [] = s
-last_of s (t ∷ later) = last_of t later
-
 -- the last state has Q, and each before it has P
 abbrev pub LastAfter : (ℕ → Type 0) → (ℕ → Type 0) → ℕ → List ℕ → Type 0
 LastAfter P Q s [] = Q s

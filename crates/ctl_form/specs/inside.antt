@@ -1,4 +1,5 @@
 -- The machine's own words: no public contract reaches them.
+pub mod CodeBack
 pub mod Known
 pub mod Next
 pub mod Operators

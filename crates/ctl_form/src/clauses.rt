@@ -16,7 +16,7 @@ impl Model for Clauses {
     ghost use Rattle.std.specs.Prelude.{List, map};
     ghost use Rattle.std.specs.Coded.{coded_list};
     ghost use Rattle.ctl_form.specs.Form.{Form, form_of};
-    ghost use Rattle.ctl_form.specs.Code.{form_code};
+    ghost use Rattle.ctl_form.specs.inside.CodeBack.{form_code};
 
     ghost Value = { List Form };
 

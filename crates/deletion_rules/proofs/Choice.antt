@@ -11,7 +11,7 @@ use Rattle.ctl_form.specs.declared.part.Part.TheVariants.{Yes, No, Lit, Both, Ei
 use Rattle.ctl_form.proofs.Along.{along_to, along_from}
 use Rattle.ctl_form.proofs.Decided.{Decided}
 use Rattle.ctl_form.proofs.Expand.{until_expands}
-use Rattle.ctl_form.proofs.Rounds.{Stage, decided_round, rises, rises_to}
+use Rattle.ctl_form.proofs.Rounds.{Stage, decided_round, round_rises, rises_to}
 use Rattle.ctl_form.proofs.TruthDecided.{decided_truth, are_decided}
 use Rattle.closure_sets.specs.ClosureParts.{ClosureParts, IsClosureParts}
 use Rattle.closure_sets.specs.Cover.{IsChosen, IsTrueAt}
@@ -66,7 +66,7 @@ module _ (m : Structure) (on : GoesOn m) (c : ClosureParts) (k : IsClosureParts 
       let r = along_to m on false false (Holds m (form_of c f)) (Holds m (form_of c g)) (are_decided m on (form_of c f) (form_of c g)) s lt h in
       let l = least_of (λ n. RoundOf m c false f g n s) (λ n. decided_round m on false false (Holds m (form_of c f)) (Holds m (form_of c g)) (are_decided m on (form_of c f) (form_of c g)) n s lt) r.0 r.1 in
       let v = by_least f g l.0 l.1 none in
-      (v.0, record { lawful = λ _ _. let w = v.1 r.0 (rises m false (Holds m (form_of c f)) (Holds m (form_of c g)) r.0 s r.1) in (w.0, w.1, subst (λ x. Holds m x w.0) (sym (until_form c k i f g false false p)) (along_from m on false false (Holds m (form_of c f)) (Holds m (form_of c g)) w.0 (on.within v.0 s w.0 w.1) (r.0, w.2))); shortest = λ _ n _ q. v.1 n q })
+      (v.0, record { lawful = λ _ _. let w = v.1 r.0 (round_rises m false (Holds m (form_of c f)) (Holds m (form_of c g)) r.0 s r.1) in (w.0, w.1, subst (λ x. Holds m x w.0) (sym (until_form c k i f g false false p)) (along_from m on false false (Holds m (form_of c f)) (Holds m (form_of c g)) w.0 (on.within v.0 s w.0 w.1) (r.0, w.2))); shortest = λ _ n _ q. v.1 n q })
 
   serve : (i f g : ℕ) (weak : Bool) → part_of c i ≡ Until false weak f g → (side : Side) × Serves i f g weak side
   serve i f g weak p = by (decided_truth m on (form_of c i) s lt) (decided_truth m on (form_of c g) s lt)

@@ -16,7 +16,7 @@ use Rattle.tableau_graph.specs.TableauParts.{TableauParts}
 use Rattle.deletion_rules.specs.Deletion.{SomeChild, HasLower, Fulfilled, IsSupported, Falls}
 use Rattle.deletion_rules.specs.Marks.{lives_of, marks_at, rank_of, ranks_of, AreLeft, AreMarks, AreTable, IsLeft, IsMarkedBy}
 use Rattle.deletion_rules.specs.Targets.{AreTargets, IsTarget, target_with}
-use Rattle.deletion_rules.specs.Tests.{is_missing, lives_on, AreLivingOrs, NoneMissing}
+use Rattle.deletion_rules.specs.inside.Tests.{is_missing, lives_on, AreLivingOrs, NoneMissing}
 use Rattle.deletion_rules.specs.declared.target.Target.{Target}
 use Rattle.deletion_rules.proofs.Seen.{lives_on_in, lives_on_out}
 use Rattle.deletion_rules.proofs.Survive.{full_until}

@@ -12,7 +12,7 @@ use Rattle.ctl_form.specs.declared.part.Part.TheVariants.{Yes, No, Lit, Both, Ei
 use Rattle.ctl_form.proofs.Along.{along_from}
 use Rattle.ctl_form.proofs.Rounds.{AreDecided}
 use Rattle.ctl_form.proofs.TruthDecided.{are_decided}
-use Rattle.ctl_form.proofs.Unfold.{greatest, stage_in}
+use Rattle.ctl_form.proofs.Unfold.{round_greatest, stage_in}
 use Rattle.closure_sets.specs.ClosureParts.{ClosureParts, IsClosureParts, count, after}
 use Rattle.closure_sets.specs.Cover.{IsTrueAt}
 use Rattle.closure_sets.specs.Full.{Has, IsFull, MeetsPart}
@@ -127,10 +127,10 @@ module _ (c : ClosureParts) (k : IsClosureParts c) (g : Graph) (ok : IsGraph c g
 
     -- weak untils
     each_unless : part_of c u ≡ Until true true f second → (n s : ℕ) → s < length m.states → Has (row_at g (at s)) u → Round m true true F Q n s
-    each_unless p = greatest m un.goes_on true F Q (λ s. Has (row_at g (at s)) u) (λ s lt has. elim (decided_has (row_at g (at s) second)) [ inl y ↦ inl (second_true s lt y) | inr none ↦ (let v = unmet_each true p s lt has none in inr (first_true s lt v.0, λ t step. let x = side_of s t step in let y = un.steps s lt x.0 t x.1 in brought s y.0 y.1 u t x.0 true f second lt p y.2 y.3 (v.1 x.0) y.4)) ])
+    each_unless p = round_greatest m un.goes_on true F Q (λ s. Has (row_at g (at s)) u) (λ s lt has. elim (decided_has (row_at g (at s) second)) [ inl y ↦ inl (second_true s lt y) | inr none ↦ (let v = unmet_each true p s lt has none in inr (first_true s lt v.0, λ t step. let x = side_of s t step in let y = un.steps s lt x.0 t x.1 in brought s y.0 y.1 u t x.0 true f second lt p y.2 y.3 (v.1 x.0) y.4)) ])
 
     some_unless : part_of c u ≡ Until false true f second → (n s : ℕ) → s < length m.states → Has (row_at g (at s)) u → Round m false true F Q n s
-    some_unless p = greatest m un.goes_on false F Q (λ s. Has (row_at g (at s)) u) (λ s lt has. elim (decided_has (row_at g (at s) second)) [ inl y ↦ inl (second_true s lt y) | inr none ↦ (let v = unmet_some true p s lt has none in let e = next_part u f second false true v.1.0 p in let y = un.goes s lt (after c v.1.0 u) u v.1.0 e v.1.1 in inr (first_true s lt v.0, (y.0, reach v.1.0 s y.0 y.1, own s (after c v.1.0 u) u y.0 v.1.0 lt e v.1.1 y.2))) ])
+    some_unless p = round_greatest m un.goes_on false F Q (λ s. Has (row_at g (at s)) u) (λ s lt has. elim (decided_has (row_at g (at s) second)) [ inl y ↦ inl (second_true s lt y) | inr none ↦ (let v = unmet_some true p s lt has none in let e = next_part u f second false true v.1.0 p in let y = un.goes s lt (after c v.1.0 u) u v.1.0 e v.1.1 in inr (first_true s lt v.0, (y.0, reach v.1.0 s y.0 y.1, own s (after c v.1.0 u) u y.0 v.1.0 lt e v.1.1 y.2))) ])
 
     -- a strong until is met at the state, or pends there
     abbrev Later : Bool → ℕ → Type 0

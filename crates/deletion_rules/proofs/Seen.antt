@@ -16,7 +16,7 @@ use Rattle.tableau_graph.specs.TableauParts.{TableauParts, and_at, edges_at, row
 use Rattle.deletion_rules.specs.inside.Cursors.{flag_of}
 use Rattle.deletion_rules.specs.Deletion.{LivesOr}
 use Rattle.deletion_rules.specs.Marks.{lives_of}
-use Rattle.deletion_rules.specs.Tests.{lives_or, lives_on, AreLivingOrs}
+use Rattle.deletion_rules.specs.inside.Tests.{lives_or, lives_on, AreLivingOrs}
 use Rattle.deletion_rules.proofs.Within.{successor_within}
 
 -- an element of a list that passes, and all that pass

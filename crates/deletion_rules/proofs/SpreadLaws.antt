@@ -22,7 +22,7 @@ use Rattle.pair_structure.specs.Lists.{list_at}
 use Rattle.deletion_rules.specs.Marks.{lives_of, mark_at, open_count, rank_of, AreMarks, IsSeen, IsMarkedBy}
 use Rattle.deletion_rules.specs.inside.Spread.{AreFirst, IsAdmitted, IsArrowTo, IsLed, IsLedBy, IsMarked, IsMetAt, IsParentOf, IsPassing, IsReaching, IsSpread, Reaching, Visits}
 use Rattle.deletion_rules.specs.Targets.{IsTarget, target_with}
-use Rattle.deletion_rules.specs.Tests.{has_member, is_met}
+use Rattle.deletion_rules.specs.inside.Tests.{has_member, is_met}
 use Rattle.deletion_rules.specs.declared.edges.Arrow.{Arrow}
 use Rattle.deletion_rules.specs.declared.target.Target.{Target}
 use Rattle.deletion_rules.proofs.Basics.{no_some, some_same}

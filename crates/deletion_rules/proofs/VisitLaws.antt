@@ -16,7 +16,7 @@ use Rattle.pair_structure.specs.Lists.{list_at}
 use Rattle.deletion_rules.specs.inside.Prefix.{StandsBefore}
 use Rattle.deletion_rules.specs.Marks.{lives_of, mark_at, open_count}
 use Rattle.deletion_rules.specs.inside.Spread.{IsAdmitted, IsArrowTo, IsLed, IsLedBy, IsMarked, IsPassing, IsReaching, Visits}
-use Rattle.deletion_rules.specs.Tests.{has_member}
+use Rattle.deletion_rules.specs.inside.Tests.{has_member}
 use Rattle.deletion_rules.specs.declared.edges.Arrow.{Arrow}
 use Rattle.deletion_rules.specs.declared.target.Target.{Target}
 use Rattle.deletion_rules.proofs.Basics.{no_some, some_same}

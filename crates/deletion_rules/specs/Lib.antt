@@ -6,6 +6,5 @@ pub mod Outcome
 pub mod Pruned
 pub mod Satisfying
 pub mod Targets
-pub mod Tests
 pub mod Unravel
 pub mod inside

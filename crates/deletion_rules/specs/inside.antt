@@ -6,4 +6,5 @@ pub mod Picking
 pub mod PositionOrder
 pub mod Spread
 pub mod Stable
+pub mod Tests
 pub mod Thinning

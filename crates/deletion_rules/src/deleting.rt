@@ -3,7 +3,7 @@ ghost use Rattle.closure_sets.specs.ClosureParts.{count};
 ghost use Rattle.deletion_rules.specs.Deletion.{IsSupported};
 ghost use Rattle.deletion_rules.specs.Marks.{lists_of, lives_of, living_count, ranks_of, AreLeft, AreTable, IsLeft};
 ghost use Rattle.deletion_rules.specs.Targets.{AreTargets, IsTarget};
-ghost use Rattle.deletion_rules.specs.Tests.{is_missing, lives_on, lives_or, AreLivingOrs, NoneMissing};
+ghost use Rattle.deletion_rules.specs.inside.Tests.{is_missing, lives_on, lives_or, AreLivingOrs, NoneMissing};
 ghost use Rattle.deletion_rules.specs.declared.target.Target.{Target};
 ghost use Rattle.tableau_graph.specs.Graph.{graph_of};
 

@@ -4,7 +4,7 @@ ghost use Rattle.deletion_rules.specs.inside.Edges.{AreEdges};
 ghost use Rattle.deletion_rules.specs.Marks.{lives_of, open_count, AreMarks};
 ghost use Rattle.deletion_rules.specs.inside.Spread.{AreFirst, IsSpread};
 ghost use Rattle.deletion_rules.specs.Targets.{IsTarget};
-ghost use Rattle.deletion_rules.specs.Tests.{is_met};
+ghost use Rattle.deletion_rules.specs.inside.Tests.{is_met};
 ghost use Rattle.tableau_graph.specs.Graph.{graph_of};
 
 use crate::cursors::{cursors, flags};

@@ -1,7 +1,7 @@
 ghost use Rattle.std.specs.Prelude.{◌≡◌, ◌<◌, ◌↔◌, IsTrue, length};
 ghost use Rattle.deletion_rules.specs.Deletion.{LivesOr};
 ghost use Rattle.deletion_rules.specs.Pruned.{rank_at, lives_at, AreRanksOf};
-ghost use Rattle.deletion_rules.specs.Tests.{lives_or};
+ghost use Rattle.deletion_rules.specs.inside.Tests.{lives_or};
 ghost use Rattle.tableau_graph.specs.Graph.{graph_of};
 
 use crate::deleting;

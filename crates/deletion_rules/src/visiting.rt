@@ -3,7 +3,7 @@ ghost use Rattle.pair_structure.specs.Lists.{list_at};
 ghost use Rattle.deletion_rules.specs.inside.Cursors.{AreCursors};
 ghost use Rattle.deletion_rules.specs.inside.Spread.{IsAdmitted, IsArrowTo, IsNextTime, IsReaching, Visits};
 ghost use Rattle.deletion_rules.specs.Targets.{IsTarget};
-ghost use Rattle.deletion_rules.specs.Tests.{has_member};
+ghost use Rattle.deletion_rules.specs.inside.Tests.{has_member};
 ghost use Rattle.deletion_rules.specs.declared.edges.Arrow.{Arrow};
 
 use crate::cursors::is_through;

@@ -6,8 +6,8 @@ use Rattle.pair_structure.specs.declared.side.LocalArc.{LocalArc}
 use Rattle.pair_structure.specs.inside.ArcTable.{is_marked, IsTableOf}
 use Rattle.pair_structure.specs.Role.{HasArc}
 
-pub unmarked : (n m p q : ℕ) → is_marked (replicate n (replicate m false)) p q ≡ false
-unmarked n m p q = grind (arith, common_steps)
+pub is_marked_none : (n m p q : ℕ) → is_marked (replicate n (replicate m false)) p q ≡ false
+is_marked_none n m p q = grind (arith, common_steps)
 
 -- an arc that is read joins the arcs before it
 arcs_more : (arcs : List LocalArc) (n p q : ℕ) (d : LocalArc) → n < length arcs → HasArc (take n arcs) p q ⊎ (((get_or arcs n d).from ≡ p) × ((get_or arcs n d).to ≡ q)) → HasArc (take (n + 1) arcs) p q

@@ -1,5 +1,6 @@
 pub mod AllPairsLaws
 pub mod ArcMarks
+pub mod Arranged
 pub mod FirstLaws
 pub mod FirstState
 pub mod ListOfLists

@@ -12,7 +12,7 @@ use Rattle.pair_structure.specs.Lists.{list_at}
 use Rattle.pair_structure.specs.Sides.{arcs_of, local_of, opposite}
 
 -- the move of this side from s to t is on this arc, and gives this command
-pub record Gives (m : Structure) (side : Side) (arc : LocalArc) (c : Command) (s t : ℕ) : Type 0 where
+pub record IsCommandOfMove (m : Structure) (side : Side) (arc : LocalArc) (c : Command) (s t : ℕ) : Type 0 where
   pub move : HasMove m side s t
   pub from : local_of side (label_at m.states s) ≡ arc.from
   pub to : local_of side (label_at m.states t) ≡ arc.to
@@ -22,7 +22,7 @@ pub record Gives (m : Structure) (side : Side) (arc : LocalArc) (c : Command) (s
 
 -- some move gives it
 abbrev pub IsCommand : Structure → Side → LocalArc → Command → Type 0
-IsCommand m side arc c = (s t : ℕ) × Gives m side arc c s t
+IsCommand m side arc c = (s t : ℕ) × IsCommandOfMove m side arc c s t
 
 -- by other, then x, then set
 abbrev pub IsBelow : Command → Command → Type 0

@@ -2,14 +2,14 @@
 use Rattle.std.proofs.Common.{ℕ, zero, suc, ◌≡◌, ◌<◌, ◌≤◌, ◌+◌, ◌-◌, Bool, true, false, not, List, [], ◌∷◌, length, get_or, take, drop, refl, arith, position, Some, None, subst}
 use Rattle.std.proofs.lemmas.List.Quantifiers.{position-Some}
 use Rattle.strict_text.specs.Pieces.{is_space, is_within, pieces_of, loose_words_of}
-use Rattle.strict_text.proofs.Positions.{none_passes, passed, failed}
+use Rattle.strict_text.proofs.Positions.{none_passes, not_false, not_true}
 
 module _ (joined : ℕ → ℕ → Bool) where
   gaps_before : (bytes : List ℕ) (n : ℕ) → n ≤ length bytes → ((k : ℕ) → k < n → not (is_space (get_or bytes k 0)) ≡ false) → pieces_of joined bytes ≡ pieces_of joined (drop n bytes)
   gaps_before bytes zero lt before = refl
   gaps_before [] (suc n) lt before = refl
   gaps_before (b ∷ bytes) (suc n) lt before =
-      let first : is_space b ≡ true = passed (is_space b) (before 0 (omega arith)) in
+      let first : is_space b ≡ true = not_false (is_space b) (before 0 (omega arith)) in
       rw first (gaps_before bytes n (omega arith) (λ k h. before (suc k) (omega arith)))
 
   -- the pieces are those from the first byte on that is no space and no tab
@@ -19,7 +19,7 @@ module _ (joined : ℕ → ℕ → Bool) where
   gaps_only : (bytes : List ℕ) → ((k : ℕ) → k < length bytes → not (is_space (get_or bytes k 0)) ≡ false) → pieces_of joined bytes ≡ []
   gaps_only [] all = refl
   gaps_only (b ∷ bytes) all =
-      let first : is_space b ≡ true = passed (is_space b) (all 0 (omega arith)) in
+      let first : is_space b ≡ true = not_false (is_space b) (all 0 (omega arith)) in
       rw first (gaps_only bytes (λ k h. all (suc k) (omega arith)))
 
   pub no_pieces : (bytes : List ℕ) → position (λ b. not (is_space b)) bytes ≡ None → pieces_of joined bytes ≡ []
@@ -56,7 +56,7 @@ piece_begins bytes n e = let p = position-Some (λ b. not (is_space b)) bytes n 
   where
     begins_there : (bytes : List ℕ) (n : ℕ) → n < length bytes → not (is_space (get_or bytes n 0)) ≡ true → is_space (get_or (drop n bytes) 0 0) ≡ false
     begins_there [] n lt e = absurd (omega arith)
-    begins_there (b ∷ bytes) zero lt e = failed (is_space b) e
+    begins_there (b ∷ bytes) zero lt e = not_true (is_space b) e
     begins_there (b ∷ bytes) (suc n) lt e = begins_there bytes n (omega arith) e
 
 unspaced : (t : Bool) → t ≡ false → not t ≡ true
@@ -64,7 +64,7 @@ unspaced false e = refl
 unspaced true e = cc
 
 within_parts : PartsAtSpaces is_within
-within_parts b c e = failed (is_space c) e
+within_parts b c e = not_true (is_space c) e
 
 -- a word ends at the first space or tab, and not where it begins
 pub word_cut : (bytes : List ℕ) (n : ℕ) → is_space (get_or bytes 0 0) ≡ false → position is_space bytes ≡ Some n → (0 < n) × (loose_words_of bytes ≡ take n bytes ∷ loose_words_of (drop n bytes))

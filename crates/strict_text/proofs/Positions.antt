@@ -8,13 +8,13 @@ pub both_true : (s t : Bool) → (s && t) ≡ true → (s ≡ true) × (t ≡ tr
 both_true true t e = (refl, e)
 both_true false t e = cc
 
-pub passed : (t : Bool) → not t ≡ false → t ≡ true
-passed true e = refl
-passed false e = cc
+pub not_false : (t : Bool) → not t ≡ false → t ≡ true
+not_false true e = refl
+not_false false e = cc
 
-pub failed : (t : Bool) → not t ≡ true → t ≡ false
-failed false e = refl
-failed true e = cc
+pub not_true : (t : Bool) → not t ≡ true → t ≡ false
+not_true false e = refl
+not_true true e = cc
 
 chosen_none : (b : Bool) (n : ℕ) → cond b (Some n) None ≡ None → b ≡ false
 chosen_none true n e = cc

@@ -4,7 +4,7 @@ use Rattle.pair_structure.specs.Role.{RoleParts}
 use Rattle.pair_structure.specs.declared.side.Side.{Side}
 use Rattle.closure_sets.specs.Cover.{ExpansionIsFull}
 use Rattle.closure_sets.specs.Expansion.{expansion}
-use Rattle.closure_sets.specs.Firsts.{Stands}
+use Rattle.closure_sets.specs.Firsts.{IsOneOf}
 use Rattle.closure_sets.specs.Full.{EachRow, IsExpansion}
 use Rattle.closure_sets.specs.Row.{Members}
 use Rattle.tableau_graph.specs.Graph.{graph_of, IsSomeNext, TableauIsGraph, TableauFollowsArcs, TableauStarts, TableauHasChildren}
@@ -18,7 +18,7 @@ edges_within (xs ∷ lists) zero x h = omega arith
 edges_within (xs ∷ lists) (suc i) x h = let lt : i < length lists = edges_within lists i x h in omega (arith, lt)
 
 -- what holds of each row of a list holds of one that stands in it
-pub each_stands : (X : Members → Type 0) (rows : List Members) (row : Members) → EachRow X rows → Stands rows row → X row
+pub each_stands : (X : Members → Type 0) (rows : List Members) (row : Members) → EachRow X rows → IsOneOf rows row → X row
 each_stands X [] row each h = absurd h
 each_stands X (r ∷ rows) row each (inl e) = subst X e each.0
 each_stands X (r ∷ rows) row each (inr h) = each_stands X rows row each.1 h

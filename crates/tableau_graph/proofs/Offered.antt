@@ -4,7 +4,7 @@ use Rattle.std.proofs.lemmas.List.{take_more}
 use Rattle.std.proofs.lemmas.List.Elements.{Contains-push, Contains-push_cases, Contains-append_left, Contains-append_right, Contains-append_cases}
 use Rattle.closure_sets.specs.ClosureParts.{ClosureParts}
 use Rattle.closure_sets.specs.Expansion.{expansion}
-use Rattle.closure_sets.specs.Firsts.{Stands, AreFirsts}
+use Rattle.closure_sets.specs.Firsts.{IsOneOf, AreFirsts}
 use Rattle.closure_sets.specs.Found.{sets_of}
 use Rattle.closure_sets.specs.Full.{EachRow}
 use Rattle.closure_sets.specs.Row.{Members}
@@ -19,16 +19,16 @@ each_map X Y [] f h = tt
 each_map X Y (r ∷ rows) f h = (f r h.0, each_map X Y rows f h.1)
 
 -- each row of a list stands in it
-each_itself : (rows : List Members) → EachRow (Stands rows) rows
+each_itself : (rows : List Members) → EachRow (IsOneOf rows) rows
 each_itself [] = tt
-each_itself (r ∷ rows) = (inl refl, each_map (Stands rows) (Stands (r ∷ rows)) rows (λ row h. inr h) (each_itself rows))
+each_itself (r ∷ rows) = (inl refl, each_map (IsOneOf rows) (IsOneOf (r ∷ rows)) rows (λ row h. inr h) (each_itself rows))
 
 -- what is noted of a list stands in it, and the list's rows stand in what is noted
-noted_stand : (all firsts : List Members) → AreFirsts all firsts → EachRow (Stands all) firsts
-noted_stand all firsts h = each_of_noted (Stands all) [] all firsts h tt (each_itself all)
+noted_stand : (all firsts : List Members) → AreFirsts all firsts → EachRow (IsOneOf all) firsts
+noted_stand all firsts h = each_of_noted (IsOneOf all) [] all firsts h tt (each_itself all)
 
-stand_noted : (all firsts : List Members) → AreFirsts all firsts → EachRow (Stands firsts) all
-stand_noted all firsts h = each_map (Stands all) (Stands firsts) all (λ row at. among_noted (λ r. r ≡ row) [] all firsts h at) (each_itself all)
+stand_noted : (all firsts : List Members) → AreFirsts all firsts → EachRow (IsOneOf firsts) all
+stand_noted all firsts h = each_map (IsOneOf all) (IsOneOf firsts) all (λ row at. among_noted (λ r. r ≡ row) [] all firsts h at) (each_itself all)
 
 at_head : {X : Type 0} (x : X) (xs : List X) → Contains (x ∷ xs) x
 at_head x xs = (0, omega arith, refl)
@@ -43,7 +43,7 @@ from_rows pair (row ∷ rows) node X each (zero, lt, e) = (ap pair_of (sym e), s
 from_rows pair (row ∷ rows) node X each (suc k, lt, e) = from_rows pair rows node X each.1 (k, omega (arith, lt), e)
 
 -- of a row that stands in a list there is a node
-of_row : (pair : ℕ × ℕ) (rows : List Row) (set : Members) → Stands (sets_of rows) set → HasAnd (map (and_with pair) rows) pair set
+of_row : (pair : ℕ × ℕ) (rows : List Row) (set : Members) → IsOneOf (sets_of rows) set → HasAnd (map (and_with pair) rows) pair set
 of_row pair [] set h = absurd h
 of_row pair (row ∷ rows) set (inl e) = (and_with pair row, at_head (and_with pair row) (map (and_with pair) rows), refl, e)
 of_row pair (row ∷ rows) set (inr h) = let k = of_row pair rows set h in (k.0, in_tail (and_with pair row) k.0 (map (and_with pair) rows) k.1, k.2, k.3)
@@ -55,13 +55,13 @@ nodes_push c pairs pair seed nodes rows are firsts = record { each = each; all =
     more : List AndNode
     more = map (and_with pair) rows
 
-    each : (node : AndNode) → Contains (nodes ++ more) node → Contains (pairs ++ pair ∷ []) (pair_of node) × Stands (expansion c (pair_of node) seed) (row_of node)
+    each : (node : AndNode) → Contains (nodes ++ more) node → Contains (pairs ++ pair ∷ []) (pair_of node) × IsOneOf (expansion c (pair_of node) seed) (row_of node)
     each node h = elim (Contains-append_cases nodes more node h) [ inl old ↦ (let k = are.each node old in (Contains-append_left pairs (pair ∷ []) (pair_of node) k.0, k.1)) | inr new ↦ newer new ]
       where
-        newer : Contains more node → Contains (pairs ++ pair ∷ []) (pair_of node) × Stands (expansion c (pair_of node) seed) (row_of node)
+        newer : Contains more node → Contains (pairs ++ pair ∷ []) (pair_of node) × IsOneOf (expansion c (pair_of node) seed) (row_of node)
         newer new =
-            let k = from_rows pair rows node (Stands (expansion c pair seed)) (noted_stand (expansion c pair seed) (sets_of rows) firsts) new in
-            (subst (Contains (pairs ++ pair ∷ [])) (sym k.0) (Contains-push pairs pair), subst (λ (p : ℕ × ℕ). Stands (expansion c p seed) (row_of node)) (sym k.0) k.1)
+            let k = from_rows pair rows node (IsOneOf (expansion c pair seed)) (noted_stand (expansion c pair seed) (sets_of rows) firsts) new in
+            (subst (Contains (pairs ++ pair ∷ [])) (sym k.0) (Contains-push pairs pair), subst (λ (p : ℕ × ℕ). IsOneOf (expansion c p seed) (row_of node)) (sym k.0) k.1)
 
     left : (p : ℕ × ℕ) (row : Members) → HasAnd nodes p row → HasAnd (nodes ++ more) p row
     left p row h = (h.0, Contains-append_left nodes more h.0 h.1, h.2, h.3)
@@ -70,7 +70,7 @@ nodes_push c pairs pair seed nodes rows are firsts = record { each = each; all =
     right p row h = (h.0, Contains-append_right nodes more h.0 h.1, h.2, h.3)
 
     here : EachRow (HasAnd (nodes ++ more) pair) (expansion c pair seed)
-    here = each_map (Stands (sets_of rows)) (HasAnd (nodes ++ more) pair) (expansion c pair seed) (λ row h. right pair row (of_row pair rows row h)) (stand_noted (expansion c pair seed) (sets_of rows) firsts)
+    here = each_map (IsOneOf (sets_of rows)) (HasAnd (nodes ++ more) pair) (expansion c pair seed) (λ row h. right pair row (of_row pair rows row h)) (stand_noted (expansion c pair seed) (sets_of rows) firsts)
 
     all : (p : ℕ × ℕ) → Contains (pairs ++ pair ∷ []) p → EachRow (HasAnd (nodes ++ more) p) (expansion c p seed)
     all p h = elim (Contains-push_cases pairs pair p h) [ inl old ↦ each_map (HasAnd nodes p) (HasAnd (nodes ++ more) p) (expansion c p seed) (left p) (are.all p old) | inr last ↦ subst (λ (q : ℕ × ℕ). EachRow (HasAnd (nodes ++ more) q) (expansion c q seed)) last here ]

@@ -9,7 +9,7 @@ use Rattle.ctl_form.specs.declared.part.Part.{Part}
 use Rattle.ctl_form.specs.declared.part.Part.TheVariants.{Next}
 use Rattle.closure_sets.specs.ClosureParts.{ClosureParts}
 use Rattle.closure_sets.specs.Expansion.{expansion}
-use Rattle.closure_sets.specs.Firsts.{Stands}
+use Rattle.closure_sets.specs.Firsts.{IsOneOf}
 use Rattle.closure_sets.specs.Full.{Has, EachRow}
 use Rattle.closure_sets.specs.Label.{part_of}
 use Rattle.closure_sets.specs.Row.{Members}
@@ -37,7 +37,7 @@ HasAnd nodes pair row = (node : AndNode) × Contains nodes node × (pair_of node
 
 -- the nodes of a seed at these pairs: one for each row of an expansion
 pub record AreNodesAt (c : ClosureParts) (pairs : List (ℕ × ℕ)) (seed : Members) (nodes : List AndNode) : Type 0 where
-  pub each : (node : AndNode) → Contains nodes node → Contains pairs (pair_of node) × Stands (expansion c (pair_of node) seed) (row_of node)
+  pub each : (node : AndNode) → Contains nodes node → Contains pairs (pair_of node) × IsOneOf (expansion c (pair_of node) seed) (row_of node)
   pub all : (pair : ℕ × ℕ) → Contains pairs pair → EachRow (HasAnd nodes pair) (expansion c pair seed)
 
 -- the set has each x for an AXs x that is a member below n of the row, and nothing else

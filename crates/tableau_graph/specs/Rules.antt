@@ -6,7 +6,7 @@ use Rattle.pair_structure.specs.declared.side.Side.{Side}
 use Rattle.ctl_form.specs.declared.part.Part.TheVariants.{Next}
 use Rattle.closure_sets.specs.ClosureParts.{ClosureParts, IsClosureParts, count}
 use Rattle.closure_sets.specs.Expansion.{expansion}
-use Rattle.closure_sets.specs.Firsts.{Stands}
+use Rattle.closure_sets.specs.Firsts.{IsOneOf}
 use Rattle.closure_sets.specs.Full.{Has, EachRow}
 use Rattle.closure_sets.specs.Label.{part_of}
 use Rattle.closure_sets.specs.Row.{Members}
@@ -36,7 +36,7 @@ pub record IsRoot (t : TableauParts) (node : OrNode) : Type 0 where
 -- the AND node has a pair that the OR node leads to, and a row of the expansion of its row there
 pub record IsChild (t : TableauParts) (node : OrNode) (child : AndNode) : Type 0 where
   pub leads : LeadsTo t.a t.b node.side (origin_of node) (pair_of child)
-  pub row : Stands (expansion t.closure (pair_of child) (seed_of node)) (row_of child)
+  pub row : IsOneOf (expansion t.closure (pair_of child) (seed_of node)) (row_of child)
 
 -- some node of the list has this pair and row
 abbrev pub HasNode : TableauParts → List ℕ → ℕ × ℕ → Members → Type 0

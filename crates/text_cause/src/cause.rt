@@ -22,7 +22,7 @@ pub enum TextCause {
     /// A name, or a number that names something, names nothing.
     #[error("UnknownName")]
     UnknownName,
-    /// A name of one name space, a start of a role, an arc, or the shape of a star is declared again.
+    /// A name of one name space, a start of a role, an arc, or the shape of a star is declared again, or a set names a local state twice.
     #[error("Twice")]
     Twice,
     /// An arc has the same local state at both ends.
@@ -43,7 +43,7 @@ pub enum TextCause {
     /// An edge between these two processes stands above.
     #[error("EdgeTwice")]
     EdgeTwice,
-    /// An edge gives this process, the lower one of two such, its 33rd neighbour.
+    /// An edge gives this process, the lower one of two such, one neighbour more than may be.
     #[error("DegreeOver")]
     DegreeOver { process: u32 },
     /// A process has not the kind's role of its side, or a label of a star not the star's role.

@@ -23,7 +23,7 @@ pub fn unravelled(alloc: Global, ranks: &Ranks) -> Result<PairStructure, Memory>
     let targets = targets_of(alloc, tableau_of(ranks).closure())?;
     let first = first_position(ranks, &targets);
     let growing = grown(alloc, ranks, &targets, first)?;
-    whole(alloc, ranks, &targets, growing)
+    structure_of(alloc, ranks, &targets, growing)
 }
 
 /// The child of the root at which the first target has the lowest rank, and the first place.
@@ -38,7 +38,7 @@ fn first_position(ranks: &Ranks, targets: &[Target]) -> Position
 }
 
 /// The structure of all positions and moves.
-fn whole(
+fn structure_of(
     alloc: Global,
     ranks: &Ranks,
     _targets: &[Target],

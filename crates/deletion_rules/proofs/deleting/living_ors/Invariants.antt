@@ -1,4 +1,4 @@
-use Rattle.deletion_rules.specs.Tests.{AreLivingOrs}
+use Rattle.deletion_rules.specs.inside.Tests.{AreLivingOrs}
 use Rattle.deletion_rules.proofs.deleting.living_ors.Given as goal
 
 abbrev pub invariant-loop-or : goal.invariant-loop-or

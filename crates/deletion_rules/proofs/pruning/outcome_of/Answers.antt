@@ -1,6 +1,6 @@
 use Rattle.std.proofs.Common.{◌≡◌, Bool, true, false, List, refl, sym, ap, ◌∙◌}
 use Rattle.deletion_rules.specs.Marks.{lists_of, lives_of, ranks_of}
-use Rattle.deletion_rules.specs.Tests.{lives_or}
+use Rattle.deletion_rules.specs.inside.Tests.{lives_or}
 use Rattle.deletion_rules.proofs.Kept.{met_dead}
 use Rattle.deletion_rules.proofs.Seen.{lives_or_in, lives_or_out}
 use Rattle.deletion_rules.proofs.pruning.outcome_of.Goals as goal

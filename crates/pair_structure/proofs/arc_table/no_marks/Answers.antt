@@ -1,5 +1,5 @@
-use Rattle.pair_structure.proofs.ArcMarks.{unmarked}
+use Rattle.pair_structure.proofs.ArcMarks.{is_marked_none}
 use Rattle.pair_structure.proofs.arc_table.no_marks.Goals as goal
 
 pub returns : goal.returns
-returns c = unmarked 32 32
+returns c = is_marked_none 32 32

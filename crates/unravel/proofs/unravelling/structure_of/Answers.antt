@@ -4,7 +4,7 @@ use Rattle.deletion_rules.specs.Satisfying.{Satisfies}
 use Rattle.deletion_rules.specs.declared.position.Position.{Position}
 use Rattle.unravel.specs.inside.Growing.{labels_of}
 use Rattle.unravel.proofs.Whole.{nodes_within, over_same, same_parts, whole_over, whole_satisfies}
-use Rattle.unravel.proofs.unravelling.whole.Goals as goal
+use Rattle.unravel.proofs.unravelling.structure_of.Goals as goal
 
 pub labels_of-requires : goal.labels_of-requires
 labels_of-requires c = subst (λ ps. All (λ (p : Position). p.node < length c.args.ranks.now.tableau.ands) ps) (sym c.nodes.ensures.same) (nodes_within c.args.ranks.now c.tableau_of-tableau.ensures.alive c.args._targets.now c.args.growing.positions c.args.growing.moves.items c.requires.grown)
