@@ -5,9 +5,13 @@ pub mod Looks
 pub mod Near
 pub mod Neighbours
 pub mod Pairs
+pub mod Passing
+pub mod PeelOrders
+pub mod Peelings
 pub mod Permissions
 pub mod Replies
 pub mod Runs
+pub mod SameNeighbours
 pub mod Setting
 pub mod Sides
 pub mod StartStates

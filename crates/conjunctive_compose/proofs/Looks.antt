@@ -14,7 +14,7 @@ use Rattle.conjunctive_compose.specs.Laws.{PairStep}
 use Rattle.conjunctive_compose.specs.Looks.{IsShown}
 use Rattle.conjunctive_compose.specs.Projection.{Begins, IsProjection}
 use Rattle.conjunctive_compose.specs.Reply.{ReplyHolds, after_first, count_of, count_on, seen_pair}
-use Rattle.conjunctive_compose.specs.Run.{IsRun, after}
+use Rattle.conjunctive_compose.specs.Run.{IsRun, whole_after}
 use Rattle.conjunctive_compose.proofs.Pairs.{fired_pairs, fired_proper, one_pair, other_local}
 use Rattle.conjunctive_compose.proofs.Starts.{start_is_proper}
 
@@ -70,7 +70,7 @@ stepped sys w e s t m c (Some side) moves later there step (u, pair, is) count =
     rw (count_is, is, same) refl
 
 shown : (sys : SystemParts) (w : WholeParts) (e s t : ℕ) (wishes : List Wish) (p : ℕ) (moves : List PairMove) → IsSystem sys → IsProper sys w → IsRun sys w wishes → e < edge_count sys → HasPair sys w e s → IsProjection sys w e wishes moves
-    → HasPair sys (after sys w (take p wishes)) e t → t ≡ state_after s (count_by (is_on sys e) (take p wishes)) moves
+    → HasPair sys (whole_after sys w (take p wishes)) e t → t ≡ state_after s (count_by (is_on sys e) (take p wishes)) moves
 shown sys w e s t [] zero moves lawful proper run lt from is there = one_pair sys w e t s there from
 shown sys w e s t [] (suc p) moves lawful proper run lt from is there = one_pair sys w e t s there from
 shown sys w e s t (wish ∷ wishes) zero moves lawful proper run lt from is there = one_pair sys w e t s there from
@@ -113,13 +113,13 @@ none_counted true n total is none = absurd (omega (arith, is, none))
 none_counted false n total is none = (refl, omega (arith, is, none))
 
 -- who has not fired is where it was
-local_stays : (sys : SystemParts) (w : WholeParts) (k : ℕ) (wishes : List Wish) → count_by (is_of k) wishes ≡ 0 → local_at (after sys w wishes) k ≡ local_at w k
+local_stays : (sys : SystemParts) (w : WholeParts) (k : ℕ) (wishes : List Wish) → count_by (is_of k) wishes ≡ 0 → local_at (whole_after sys w wishes) k ≡ local_at w k
 local_stays sys w k [] none = refl
 local_stays sys w k (wish ∷ wishes) none =
     let split = none_counted (is_of k wish) (count_by (is_of k) wishes) (count_by (is_of k) (wish ∷ wishes)) (count-cons (is_of k) wish wishes) none in
     local_stays sys (fired sys w wish) k wishes split.1 ∙ other_local sys w wish k (λ same. eqb-false wish.process k split.0 (sym same))
 
-local_same : (sys : SystemParts) (w : WholeParts) (k : ℕ) (wishes : List Wish) (p q : ℕ) → p ≤ q → count_by (is_of k) (take p wishes) ≡ count_by (is_of k) (take q wishes) → local_at (after sys w (take p wishes)) k ≡ local_at (after sys w (take q wishes)) k
+local_same : (sys : SystemParts) (w : WholeParts) (k : ℕ) (wishes : List Wish) (p q : ℕ) → p ≤ q → count_by (is_of k) (take p wishes) ≡ count_by (is_of k) (take q wishes) → local_at (whole_after sys w (take p wishes)) k ≡ local_at (whole_after sys w (take q wishes)) k
 local_same sys w k [] zero zero le same = refl
 local_same sys w k [] zero (suc q) le same = refl
 local_same sys w k [] (suc p) zero le same = refl

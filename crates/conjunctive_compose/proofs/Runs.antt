@@ -7,13 +7,13 @@ use Rattle.conjunctive_compose.specs.declared.wish.PairMove.{PairMove}
 use Rattle.conjunctive_compose.specs.System.{SystemParts, IsSystem, edge_at, edge_count, side_on, structure_at}
 use Rattle.conjunctive_compose.specs.Whole.{WholeParts, IsProper, HasPair, start_of, start_state}
 use Rattle.conjunctive_compose.specs.Firing.{Moves, fired}
-use Rattle.conjunctive_compose.specs.Run.{IsRun, Reaches, after}
+use Rattle.conjunctive_compose.specs.Run.{IsRun, Reaches, whole_after}
 use Rattle.conjunctive_compose.specs.Projection.{IsProjection, IsPairPath, Begins}
 use Rattle.conjunctive_compose.specs.Laws.{PairStep, ProjectsToPath}
 use Rattle.conjunctive_compose.proofs.Pairs.{fired_pairs, fired_proper, one_pair}
 use Rattle.conjunctive_compose.proofs.Starts.{start_is_proper}
 
-pub run_proper : (sys : SystemParts) (w : WholeParts) (wishes : List Wish) → IsSystem sys → IsProper sys w → IsRun sys w wishes → IsProper sys (after sys w wishes)
+pub run_proper : (sys : SystemParts) (w : WholeParts) (wishes : List Wish) → IsSystem sys → IsProper sys w → IsRun sys w wishes → IsProper sys (whole_after sys w wishes)
 run_proper sys w [] lawful proper run = proper
 run_proper sys w (wish ∷ later) lawful proper run = run_proper sys (fired sys w wish) later lawful (fired_proper sys w wish lawful proper run.0) run.1
 
@@ -47,7 +47,7 @@ projection_path sys w e s (wish ∷ wishes) moves lawful proper run lt pair (lat
     let there = (proper'.pairs e lt).1 in
     pair_path_begins sys (fired sys w wish) e s t (side_on (edge_at sys e) wish.process) later moves there (fired_pairs sys w wish lawful proper run.0 e s t lt pair there) begins (projection_path sys (fired sys w wish) e t wishes later lawful proper' run.1 lt there is)
 
-pub run_grows : (sys : SystemParts) (w : WholeParts) (run : List Wish) (wish : Wish) → IsRun sys w run → Moves sys (after sys w run) wish → IsRun sys w (run ++ wish ∷ [])
+pub run_grows : (sys : SystemParts) (w : WholeParts) (run : List Wish) (wish : Wish) → IsRun sys w run → Moves sys (whole_after sys w run) wish → IsRun sys w (run ++ wish ∷ [])
 run_grows sys w [] wish is moves = (moves, tt)
 run_grows sys w (x ∷ run) wish is moves = (is.0, run_grows sys (fired sys w x) run wish is.1 moves)
 

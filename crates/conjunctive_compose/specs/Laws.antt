@@ -9,7 +9,7 @@ use Rattle.conjunctive_compose.specs.System.{SystemParts, IsSystem, IsOn, edge_a
 use Rattle.conjunctive_compose.specs.Whole.{WholeParts, start_of, IsProper, HasPair, local_at, start_state, value_at}
 use Rattle.conjunctive_compose.specs.Firing.{IsAnswer, Moves, across, fired, value_after}
 use Rattle.conjunctive_compose.specs.Reply.{count_of, count_on}
-use Rattle.conjunctive_compose.specs.Run.{IsRun, Reaches, after}
+use Rattle.conjunctive_compose.specs.Run.{IsRun, Reaches, whole_after}
 use Rattle.conjunctive_compose.specs.Projection.{IsProjection, IsPairPath}
 
 -- the start is proper, and each edge is in the pair state where it starts
@@ -79,4 +79,4 @@ abbrev pub NearDecidesAnswers : Type 0
 NearDecidesAnswers = (sys : SystemParts) (v w v' : WholeParts) (wish : Wish) (answer : StepAnswer) → AgreeNear sys wish.process v w → IsAnswer sys v wish answer v' → (w' : WholeParts) × IsAnswer sys w wish answer w'
 
 abbrev pub RunGrows : Type 0
-RunGrows = (sys : SystemParts) (w : WholeParts) (run : List Wish) (wish : Wish) → IsRun sys w run → Moves sys (after sys w run) wish → IsRun sys w (run ++ wish ∷ [])
+RunGrows = (sys : SystemParts) (w : WholeParts) (run : List Wish) (wish : Wish) → IsRun sys w run → Moves sys (whole_after sys w run) wish → IsRun sys w (run ++ wish ∷ [])

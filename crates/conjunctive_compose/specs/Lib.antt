@@ -2,8 +2,10 @@ pub mod Firing
 pub mod Laws
 pub mod Looks
 pub mod Order
+pub mod Peel
 pub mod Projection
 pub mod Reply
 pub mod Run
 pub mod System
 pub mod Whole
+pub mod inside

@@ -6,7 +6,7 @@ use Rattle.conjunctive_compose.specs.declared.wish.StepAnswer.TheVariants.{Away,
 use Rattle.conjunctive_compose.specs.System.{SystemParts, edge_at, edge_count, process_count, side_on}
 use Rattle.conjunctive_compose.specs.Whole.{WholeParts, HasPair, start_of, local_at}
 use Rattle.conjunctive_compose.specs.Firing.{IsAnswer, WishFits}
-use Rattle.conjunctive_compose.specs.Run.{after}
+use Rattle.conjunctive_compose.specs.Run.{whole_after}
 
 -- a wish was fired as the entry of this number; a wish was away, or blocked by this process, at this place; a process was seen after so
 -- many firings in this local state; an edge was seen after so many firings in this pair state
@@ -19,7 +19,7 @@ pub data Told : Type 0 where
 
 -- the whole state at place p: after the first p entries
 abbrev pub after_first : SystemParts → List Wish → ℕ → WholeParts
-after_first sys run p = after sys (start_of sys) (take p run)
+after_first sys run p = whole_after sys (start_of sys) (take p run)
 
 -- how many of the first p entries are firings of process k
 abbrev pub count_of : List Wish → ℕ → ℕ → ℕ

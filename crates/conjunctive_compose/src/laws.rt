@@ -2,6 +2,7 @@ ghost use Rattle.conjunctive_compose.specs.Laws.{FiringKeepsPairs, NearDecides, 
 ghost use Rattle.conjunctive_compose.specs.Looks.{EqualCountsEqualLocals, LookShowsProjection, ProjectionCounts};
 ghost use Rattle.conjunctive_compose.specs.Order.{HoldsWithin, OrderStays, ToldStays};
 ghost use Rattle.conjunctive_compose.specs.Reply.{HoldsLonger};
+ghost use Rattle.conjunctive_compose.specs.Peel.{FiringKeepsPeelOrder, PeelOrderEnables};
 
 /// The start is proper, and each edge is in the pair state where it starts.
 pub fn start_is_proper()
@@ -82,4 +83,14 @@ pub fn look_shows_projection()
 /// Where a process has fired equally often it is in one local state.
 pub fn equal_counts_equal_locals()
     ensures { EqualCountsEqualLocals }
+{}
+
+/// Where a process can go on after its firing, or permits all arcs of its neighbours, a peel order is left.
+pub fn firing_keeps_peel_order()
+    ensures { FiringKeepsPeelOrder }
+{}
+
+/// With a peel order some process can go on, if there is one.
+pub fn peel_order_enables()
+    ensures { PeelOrderEnables }
 {}

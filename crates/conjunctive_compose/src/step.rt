@@ -52,7 +52,7 @@ impl System {
         }
     }
 
-    fn is_permitted(&self, w: &Whole, wish: Wish, b: &Beside) -> bool
+    pub(crate) fn is_permitted(&self, w: &Whole, wish: Wish, b: &Beside) -> bool
         requires fits { WishFits self.now wish }
         requires sizes { HasSizes self.now w.now }
         requires beside { IsBeside self.now.network.edges wish.process b.now }

@@ -114,7 +114,7 @@ impl System {
         }
     }
 
-    fn role(&self, process: u32) -> &Role
+    pub(crate) fn role(&self, process: u32) -> &Role
         requires { process < process_count self.now }
         ensures { result.now ≡ role_of self.now process }
     {

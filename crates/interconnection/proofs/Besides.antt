@@ -32,11 +32,11 @@ either : (b : Bool) → (b || true) ≡ true
 either true = refl
 either false = refl
 
-joins_by : (edge : Edge) (k : ℕ) (side : Side) → end_of edge side ≡ k → joins k edge ≡ true
+pub joins_by : (edge : Edge) (k : ℕ) (side : Side) → end_of edge side ≡ k → joins k edge ≡ true
 joins_by edge k A is = rw (eq-eqb edge.a k is) refl
 joins_by edge k B is = rw (eq-eqb edge.b k is) (either (edge.a == k))
 
-joins_not : (edge : Edge) (k : ℕ) → edge.a ≢ k → edge.b ≢ k → joins k edge ≡ false
+pub joins_not : (edge : Edge) (k : ℕ) → edge.a ≢ k → edge.b ≢ k → joins k edge ≡ false
 joins_not edge k a b = rw (ne_eqb edge.a k a, ne_eqb edge.b k b) refl
 
 IsBesideBelow-more : (n : ℕ) (edges : List Edge) (k : ℕ) (b : Beside) → IsBesideBelow n edges k b → IsBesideBelow (n + 1) edges k b

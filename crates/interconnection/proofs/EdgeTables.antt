@@ -4,7 +4,6 @@ use Rattle.std.proofs.lemmas.Bool.{eq-eqb, eqb-true}
 use Rattle.std.proofs.lemmas.List.Elements.{Contains-append_cases, Contains-append_left, Contains-append_right}
 use Rattle.std.proofs.lemmas.Bool.Decides.{nat_tests}
 use Rattle.std.proofs.lemmas.List.Recursion.{is_count_by}
-use Rattle.interconnection.specs.declared.limits.TheConstants.{MAX_NEIGHBOURS}
 use Rattle.interconnection.specs.declared.parts.Edge.{Edge}
 use Rattle.interconnection.specs.Graph.{joins, degree_of}
 use Rattle.interconnection.specs.Graph.{AreJoined}
@@ -93,14 +92,14 @@ are_joined_from edges now rows p q list has view is list_is told =
       λ h. told.1 (subst (λ l. Contains l q) (sym here) (joined_other_ends edges p q (subst (λ (es : List Edge). AreJoined es p q) (sym view) h))),
     )
 
-tested_le : (n : ℕ) → nat_le MAX_NEIGHBOURS n ≡ true → MAX_NEIGHBOURS ≤ n
-tested_le n e = grind (arith, nat_tests)
+tested_le : (m n : ℕ) → nat_le m n ≡ true → m ≤ n
+tested_le m n e = grind (arith, nat_tests)
 
-le_tested : (n : ℕ) → MAX_NEIGHBOURS ≤ n → nat_le MAX_NEIGHBOURS n ≡ true
-le_tested n le = grind (arith, nat_tests)
+le_tested : (m n : ℕ) → m ≤ n → nat_le m n ≡ true
+le_tested m n le = grind (arith, nat_tests)
 
--- a process has MAX_NEIGHBOURS edges where its list is so long
-pub is_full_from : (edges now : List Edge) (rows : List (List ℕ)) (k : ℕ) (list : List ℕ) → edges ≡ now → IsEdgeTable edges rows → list ≡ row rows k → IsTrue (nat_le MAX_NEIGHBOURS (length list)) ↔ (MAX_NEIGHBOURS ≤ degree_of now k)
-is_full_from edges now rows k list view is list_is =
+-- a process has so many edges where its list is so long
+pub is_full_from : (edges now : List Edge) (rows : List (List ℕ)) (k most : ℕ) (list : List ℕ) → edges ≡ now → IsEdgeTable edges rows → list ≡ row rows k → IsTrue (nat_le most (length list)) ↔ (most ≤ degree_of now k)
+is_full_from edges now rows k most list view is list_is =
     let many : length list ≡ degree_of now k = ap (λ (l : List ℕ). length l) (list_is ∙ is k) ∙ other_ends-length edges k ∙ ap (λ (es : List Edge). degree_of es k) view in
-    (λ t. subst (λ n. MAX_NEIGHBOURS ≤ n) many (tested_le (length list) t), λ h. le_tested (length list) (subst (λ n. MAX_NEIGHBOURS ≤ n) (sym many) h))
+    (λ t. subst (λ n. most ≤ n) many (tested_le most (length list) t), λ h. le_tested most (length list) (subst (λ n. most ≤ n) (sym many) h))

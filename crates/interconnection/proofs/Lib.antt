@@ -1,8 +1,13 @@
 pub mod Besides
+pub mod Choices
+pub mod Counting
 pub mod EdgeCount
 pub mod EdgeTables
 pub mod FaultLaws
 pub mod Growing
+pub mod LabelLists
 pub mod OneFurther
 pub mod ProcessNumberLaws
 pub mod RisingLists
+pub mod ShapeLaws
+pub mod ShapeOrder

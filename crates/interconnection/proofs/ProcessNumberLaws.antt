@@ -45,9 +45,9 @@ not_same None number = refl
 not_same (Some n) number = refl
 
 -- a name that had no number is kept with this one
-pub numbered : (old new : Kept) (name key : List ℕ) (number : ℕ) → key ≡ name → is_some (kept_at old name) ≡ false → kept_at new key ≡ Some number
+pub kept_at_new : (old new : Kept) (name key : List ℕ) (number : ℕ) → key ≡ name → is_some (kept_at old name) ≡ false → kept_at new key ≡ Some number
     → KeepsOthers (eq_by_cmp (λ (x y : Vec ℕ Global). slice_cmp nat_cmp x.items y.items)) (is_key key) old new → IsNumbered old name number new
-numbered old new name key number same none here keeps other = at (bytes_eq name other) refl
+kept_at_new old new name key number same none here keeps other = at (bytes_eq name other) refl
   where
     at : (t : Bool) → bytes_eq name other ≡ t → kept_at new other ≡ or_number (kept_at old other) t number
     at true e =

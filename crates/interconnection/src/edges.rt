@@ -1,7 +1,7 @@
 ghost use Rattle.std.specs.Prelude.{◌≡◌, ◌↔◌, ◌≤◌, ◌++◌, ◌∷◌, [], IsTrue, IfOk, Contains};
 ghost use Rattle.interconnection.specs.Graph.{degree_of, AreJoined};
 
-use crate::{Edge, MAX_NEIGHBOURS};
+use crate::Edge;
 use pair_structure::Lists;
 use std::alloc::{AllocError, Global};
 use std::marker::Model;
@@ -67,11 +67,11 @@ impl Edges {
         has(self.beside.list(p as usize), q)
     }
 
-    /// Whether the process has `MAX_NEIGHBOURS` edges.
-    pub fn is_full(&self, process: u32) -> bool
-        ensures { IsTrue result ↔ (MAX_NEIGHBOURS ≤ degree_of self.now process) }
+    /// Whether the process has so many edges.
+    pub fn is_full(&self, process: u32, most: usize) -> bool
+        ensures { IsTrue result ↔ (most ≤ degree_of self.now process) }
     {
-        self.beside.list(process as usize).len() >= MAX_NEIGHBOURS
+        self.beside.list(process as usize).len() >= most
     }
 }
 

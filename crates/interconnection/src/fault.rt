@@ -29,8 +29,8 @@ pub enum NetworkFault {
     /// The roles of the edge's processes are not those of its kind.
     #[error("edge {edge} has processes of other roles than its kind")]
     RoleMismatch { edge: u32 },
-    /// The process has more than 32 neighbours.
-    #[error("process {process} has more than 32 neighbours")]
+    /// The process has more than 64 neighbours.
+    #[error("process {process} has more than 64 neighbours")]
     DegreeOver { process: u32 },
     /// Memory ran out.
     #[error("out of memory")]

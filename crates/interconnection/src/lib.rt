@@ -2,10 +2,12 @@
 #![tactic(auto)]
 
 mod adjacency;
+mod choice;
 mod copies;
 mod edge_check;
 mod edges;
 mod fault;
+mod labels;
 mod laws;
 mod limits;
 mod neighbourhood;
@@ -13,11 +15,14 @@ mod network;
 mod part_check;
 mod parts;
 mod processes;
+mod shape;
+mod shapes;
 
 pub use edges::Edges;
 pub use fault::NetworkFault;
-pub use laws::{few_edges, neighbours_are_mutual, stands_once_in_own_plan};
+pub use laws::{few_edges, neighbours_are_mutual, next_shapes_are_all, stands_once_in_own_plan};
 pub use limits::{MAX_KINDS, MAX_NEIGHBOURS, MAX_PROCESSES, MAX_ROLES};
 pub use network::Network;
 pub use parts::{Beside, Edge, Process};
 pub use processes::Processes;
+pub use shape::Shape;

@@ -5,7 +5,7 @@ pub const MAX_ROLES: usize = 16;
 pub const MAX_KINDS: usize = 16;
 
 /// The most processes.
-pub const MAX_PROCESSES: usize = 1024;
+pub const MAX_PROCESSES: usize = 4096;
 
 /// The most neighbours of a process.
-pub const MAX_NEIGHBOURS: usize = 32;
+pub const MAX_NEIGHBOURS: usize = 64;

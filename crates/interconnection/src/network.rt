@@ -1,16 +1,19 @@
 ghost use Rattle.std.specs.Prelude.{◌≡◌, ◌≢◌, ◌<◌, ◌^◌, length, All, IfOk, IfErr};
+ghost use Rattle.std.specs.List.Sorted.{IsNonDecreasingBy, IsPermutation};
 ghost use Rattle.pair_structure.specs.Role.{IsRole};
 ghost use Rattle.interconnection.specs.Around.{AreAround};
 ghost use Rattle.interconnection.specs.Graph.{AreNeighbours, IsLockPlan, degree_of};
 ghost use Rattle.interconnection.specs.Network.{AreLawful, IsNetwork};
 ghost use Rattle.interconnection.specs.NetworkFault.{IsFirstNetworkFault};
+ghost use Rattle.interconnection.specs.Shape.{labels_of, rank};
 
 use crate::adjacency::Adjacency;
 use crate::copies::{process_copies, role_copies};
 use crate::edge_check::{edge_fault, first_mismatch};
+use crate::labels::{label_copies, sorted_labels};
 use crate::part_check::part_fault;
 use crate::{Beside, Edge, NetworkFault, Process};
-use pair_structure::{Memory, Role};
+use pair_structure::{Lists, Memory, Role, Side};
 use std::alloc::Global;
 use std::marker::Model;
 
@@ -22,18 +25,20 @@ pub struct Network {
     processes: Vec<Process>,
     edges: Vec<Edge>,
     adjacency: Adjacency,
+    labels: Lists<(u8, Side)>,
 }
 
 impl Model for Network {
     ghost use Rattle.std.specs.Prelude.{length};
     ghost use Rattle.interconnection.specs.Around.{AreAround};
+    ghost use Rattle.interconnection.specs.inside.Labels.{AreLabels};
     ghost use Rattle.interconnection.specs.Network.{NetworkParts, AreLawful};
 
     ghost Value = { NetworkParts };
 
     ghost view = { λ n. record { roles = n.roles.items; ends = n.ends.items; processes = n.processes.items; edges = n.edges.items } };
 
-    ghost invariant = { λ n. AreLawful n.roles.items n.ends.items n.processes.items n.edges.items × AreAround (length n.processes.items) n.edges.items n.adjacency };
+    ghost invariant = { λ n. AreLawful n.roles.items n.ends.items n.processes.items n.edges.items × AreAround (length n.processes.items) n.edges.items n.adjacency × AreLabels (length n.processes.items) n.edges.items n.labels };
 }
 
 impl Network {
@@ -53,13 +58,17 @@ impl Network {
         ensures refused { IfErr result (λ fault. fault ≢ NetworkFault.Memory → AreLawful roles.items ends.items processes.items edges.items → ⊥) }
     {
         match adjacency_of(alloc, &roles, &ends, &processes, &edges) {
-            Ok(adjacency) => Ok(Network {
-                roles,
-                ends,
-                processes,
-                edges,
-                adjacency,
-            }),
+            Ok(adjacency) => {
+                let labels = sorted_labels(alloc, processes.len(), &edges)?;
+                Ok(Network {
+                    roles,
+                    ends,
+                    processes,
+                    edges,
+                    adjacency,
+                    labels,
+                })
+            }
             Err(fault) => Err(fault),
         }
     }
@@ -77,6 +86,7 @@ impl Network {
             processes,
             edges: Vec::from_slice(alloc, &self.edges)?,
             adjacency: self.adjacency.copy(alloc)?,
+            labels: label_copies(alloc, &self.labels, self.processes.len())?,
         })
     }
 
@@ -127,6 +137,16 @@ impl Network {
         ensures { IsLockPlan self.now.edges k result.now }
     {
         self.adjacency.plan(k as usize)
+    }
+
+    /// The labels of the process's edges, sorted. Takes no time that grows with the network.
+    pub(crate) fn labels(&self, k: u32) -> &[(u8, Side)]
+        requires { k < length self.now.processes }
+        ensures same { IsPermutation (labels_of self.now.edges k) result.now }
+        ensures sorted { IsNonDecreasingBy rank result.now }
+        ensures count { length result.now ≡ degree_of self.now.edges k }
+    {
+        self.labels.list(k as usize)
     }
 }
 
