@@ -1,18 +1,20 @@
 -- The lowest cause against a line, rule by rule.
-use Rattle.std.proofs.Common.{ℕ, ◌≡◌, ◌≤◌, Option, List, length, Contains, refl, ap, arith}
+use Rattle.std.proofs.Common.{ℕ, ◌≡◌, ◌≤◌, Option, List, length, Any, Contains, refl, ap, arith}
 use Rattle.pair_structure.specs.declared.limits.TheConstants.{MAX_ARCS}
-use Rattle.interconnection.specs.declared.limits.TheConstants.{MAX_KINDS, MAX_PROCESSES}
+use Rattle.interconnection.specs.declared.limits.TheConstants.{MAX_KINDS}
 use Rattle.pair_structure.specs.declared.side.LocalArc.{LocalArc}
 use Rattle.pair_structure.specs.Role.{RoleParts, HasArc}
 use Rattle.ctl_form.specs.declared.pair_spec.PairSpec.{PairSpec}
 use Rattle.interconnection.specs.declared.parts.Process.{Process}
 use Rattle.interconnection.specs.declared.parts.Edge.{Edge}
+use Rattle.formula_text.specs.Sets.{SetParts}
+use Rattle.ctl_text.specs.declared.format.TheConstants.{MAX_SETS}
 use Rattle.text_cause.specs.declared.cause.TextCause.{TextCause}
 use Rattle.text_cause.specs.declared.cause.TextCause.TheVariants.{UnknownName, Twice, SelfArc, TooMany, SelfEdge, EdgeTwice, DegreeOver, RoleMismatch, NotAStart}
 use Rattle.ctl_text.specs.Value.{role_names, kind_names, process_names, number_in, AreJoined}
 use Rattle.text_cause.specs.Cause.{IsLowest, IsFree, cause_no, Row, Or}
-use Rattle.ctl_text.specs.Cause.{IsFirstCrowded, IsCrowded, AreOfKind, IsNoStart, IsUnknownStart, UseStands}
-use Rattle.ctl_text.specs.inside.LineCause.{NameStands, BeginStands, ArcStands, JoinStands, EdgeStands}
+use Rattle.ctl_text.specs.Cause.{IsUnknown, IsFirstCrowded, IsCrowded, AreOfKind, IsNoStart, IsUnknownStart, UseStands}
+use Rattle.ctl_text.specs.inside.LineCause.{NameStands, IsSetAgain, SetStands, BeginStands, ArcStands, JoinStands, EdgeStands}
 use Rattle.text_cause.proofs.Lowest.{From, from_row, from_or, row_lowest, row_free, or_free, or_left, or_right}
 
 abbrev Declared : List (List ℕ) → List ℕ → TextCause → Type 0
@@ -53,8 +55,8 @@ pub use_none : (names : List (List ℕ)) (name : List ℕ) (rest : TextCause →
 use_none names name rest there free = or_free (UseStands names name) rest (use_free names name there) free
 
 -- a process: its role, then its name
-pub process_from : (processes : List Process) (name : List ℕ) → From 5 (NameStands (process_names processes) MAX_PROCESSES name)
-process_from processes name = name_from (process_names processes) MAX_PROCESSES name
+pub process_from : (most : ℕ) (processes : List Process) (name : List ℕ) → From 5 (NameStands (process_names processes) most name)
+process_from most processes name = name_from (process_names processes) most name
 
 -- a process of a role: where it is to begin, then its name
 abbrev BeginUnknown : RoleParts → Option (List ℕ) → TextCause → Type 0
@@ -63,16 +65,16 @@ BeginUnknown r start = Row UnknownName (IsUnknownStart r start)
 abbrev BeginElsewhere : RoleParts → Option (List ℕ) → TextCause → Type 0
 BeginElsewhere r start = Row NotAStart (IsNoStart r start)
 
-abbrev BeginNamed : RoleParts → List Process → List ℕ → Option (List ℕ) → TextCause → Type 0
-BeginNamed r processes name start = Or (NameStands (process_names processes) MAX_PROCESSES name) (BeginElsewhere r start)
+abbrev BeginNamed : ℕ → RoleParts → List Process → List ℕ → Option (List ℕ) → TextCause → Type 0
+BeginNamed most r processes name start = Or (NameStands (process_names processes) most name) (BeginElsewhere r start)
 
-pub begin_elsewhere : (r : RoleParts) (processes : List Process) (name : List ℕ) (start : Option (List ℕ)) → (IsUnknownStart r start → ⊥) → IsFree (NameStands (process_names processes) MAX_PROCESSES name) → IsNoStart r start → IsLowest (BeginStands r processes name start) NotAStart
-begin_elsewhere r processes name start known free other = or_right (BeginUnknown r start) (BeginNamed r processes name start) NotAStart (row_free UnknownName (IsUnknownStart r start) known)
-    (or_right (NameStands (process_names processes) MAX_PROCESSES name) (BeginElsewhere r start) NotAStart free (row_lowest NotAStart (IsNoStart r start) other))
+pub begin_elsewhere : (most : ℕ) (r : RoleParts) (processes : List Process) (name : List ℕ) (start : Option (List ℕ)) → (IsUnknownStart r start → ⊥) → IsFree (NameStands (process_names processes) most name) → IsNoStart r start → IsLowest (BeginStands most r processes name start) NotAStart
+begin_elsewhere most r processes name start known free other = or_right (BeginUnknown r start) (BeginNamed most r processes name start) NotAStart (row_free UnknownName (IsUnknownStart r start) known)
+    (or_right (NameStands (process_names processes) most name) (BeginElsewhere r start) NotAStart free (row_lowest NotAStart (IsNoStart r start) other))
 
-pub begin_free : (r : RoleParts) (processes : List Process) (name : List ℕ) (start : Option (List ℕ)) → (IsUnknownStart r start → ⊥) → IsFree (NameStands (process_names processes) MAX_PROCESSES name) → (IsNoStart r start → ⊥) → IsFree (BeginStands r processes name start)
-begin_free r processes name start known free begins = or_free (BeginUnknown r start) (BeginNamed r processes name start) (row_free UnknownName (IsUnknownStart r start) known)
-    (or_free (NameStands (process_names processes) MAX_PROCESSES name) (BeginElsewhere r start) free (row_free NotAStart (IsNoStart r start) begins))
+pub begin_free : (most : ℕ) (r : RoleParts) (processes : List Process) (name : List ℕ) (start : Option (List ℕ)) → (IsUnknownStart r start → ⊥) → IsFree (NameStands (process_names processes) most name) → (IsNoStart r start → ⊥) → IsFree (BeginStands most r processes name start)
+begin_free most r processes name start known free begins = or_free (BeginUnknown r start) (BeginNamed most r processes name start) (row_free UnknownName (IsUnknownStart r start) known)
+    (or_free (NameStands (process_names processes) most name) (BeginElsewhere r start) free (row_free NotAStart (IsNoStart r start) begins))
 
 -- a kind: its roles, then its name
 pub kind_from : (roles : List RoleParts) (kinds : List PairSpec) (name b : List ℕ) → From 5 (Or (UseStands (role_names roles) b) (NameStands (kind_names kinds) MAX_KINDS name))
@@ -80,6 +82,37 @@ kind_from roles kinds name b = from_or 5 (UseStands (role_names roles) b) (NameS
 
 pub kind_name_from : (kinds : List PairSpec) (name : List ℕ) → From 5 (NameStands (kind_names kinds) MAX_KINDS name)
 kind_name_from kinds name = name_from (kind_names kinds) MAX_KINDS name
+
+-- a set: its members, whether it stands above or repeats one, and how many there are
+abbrev SetUnknown : List (List ℕ) → List (List ℕ) → TextCause → Type 0
+SetUnknown names members = Row UnknownName (Any (IsUnknown names) members)
+
+abbrev SetAgain : List (List ℕ) → List SetParts → List ℕ → List (List ℕ) → TextCause → Type 0
+SetAgain names sets name members = Row Twice (IsSetAgain names sets name members)
+
+abbrev SetMany : List SetParts → TextCause → Type 0
+SetMany sets = Row (TooMany MAX_SETS) (MAX_SETS ≤ length sets)
+
+abbrev SetRows : List (List ℕ) → List SetParts → List ℕ → List (List ℕ) → TextCause → Type 0
+SetRows names sets name members = Or (SetAgain names sets name members) (SetMany sets)
+
+set_rows_from : (names : List (List ℕ)) (sets : List SetParts) (name : List ℕ) (members : List (List ℕ)) → From 5 (SetRows names sets name members)
+set_rows_from names sets name members = from_or 5 (SetAgain names sets name members) (SetMany sets) (from_row 5 Twice (IsSetAgain names sets name members) (omega arith)) (from_row 5 (TooMany MAX_SETS) (MAX_SETS ≤ length sets) (omega arith))
+
+pub set_unknown : (names : List (List ℕ)) (sets : List SetParts) (name : List ℕ) (members : List (List ℕ)) → Any (IsUnknown names) members → IsLowest (SetStands names sets name members) UnknownName
+set_unknown names sets name members unknown = or_left (SetUnknown names members) (SetRows names sets name members) UnknownName (row_lowest UnknownName (Any (IsUnknown names) members) unknown) (set_rows_from names sets name members)
+
+pub set_twice : (names : List (List ℕ)) (sets : List SetParts) (name : List ℕ) (members : List (List ℕ)) → (Any (IsUnknown names) members → ⊥) → IsSetAgain names sets name members → IsLowest (SetStands names sets name members) Twice
+set_twice names sets name members known again = or_right (SetUnknown names members) (SetRows names sets name members) Twice (row_free UnknownName (Any (IsUnknown names) members) known)
+    (or_left (SetAgain names sets name members) (SetMany sets) Twice (row_lowest Twice (IsSetAgain names sets name members) again) (from_row 6 (TooMany MAX_SETS) (MAX_SETS ≤ length sets) (omega arith)))
+
+pub set_many : (names : List (List ℕ)) (sets : List SetParts) (name : List ℕ) (members : List (List ℕ)) → (Any (IsUnknown names) members → ⊥) → (IsSetAgain names sets name members → ⊥) → MAX_SETS ≤ length sets → IsLowest (SetStands names sets name members) (TooMany MAX_SETS)
+set_many names sets name members known fresh over = or_right (SetUnknown names members) (SetRows names sets name members) (TooMany MAX_SETS) (row_free UnknownName (Any (IsUnknown names) members) known)
+    (or_right (SetAgain names sets name members) (SetMany sets) (TooMany MAX_SETS) (row_free Twice (IsSetAgain names sets name members) fresh) (row_lowest (TooMany MAX_SETS) (MAX_SETS ≤ length sets) over))
+
+pub set_free : (names : List (List ℕ)) (sets : List SetParts) (name : List ℕ) (members : List (List ℕ)) → (Any (IsUnknown names) members → ⊥) → (IsSetAgain names sets name members → ⊥) → (MAX_SETS ≤ length sets → ⊥) → IsFree (SetStands names sets name members)
+set_free names sets name members known fresh few = or_free (SetUnknown names members) (SetRows names sets name members) (row_free UnknownName (Any (IsUnknown names) members) known)
+    (or_free (SetAgain names sets name members) (SetMany sets) (row_free Twice (IsSetAgain names sets name members) fresh) (row_free (TooMany MAX_SETS) (MAX_SETS ≤ length sets) few))
 
 -- an arc: its ends, whether it stands above, whether it joins itself, and how many there are
 abbrev ArcTwice : List (List ℕ) → List LocalArc → List ℕ → List ℕ → TextCause → Type 0
@@ -128,107 +161,109 @@ arc_free names made p q there here fresh differ few = use_none names p (Or (UseS
     (or_free (ArcTwice names made p q) (Or (ArcSelf p q) (ArcMany made)) (row_free Twice (HasArc made (number_in names p) (number_in names q)) fresh)
     (or_free (ArcSelf p q) (ArcMany made) (row_free SelfArc (p ≡ q) differ) (row_free (TooMany MAX_ARCS) (MAX_ARCS ≤ length made) few))))
 
--- an edge, by the numbers: itself, twice, crowded, of other roles
-abbrev JoinSelf : ℕ → ℕ → TextCause → Type 0
-JoinSelf p q = Row SelfEdge (p ≡ q)
+-- an edge, of which a process may have so many
+module _ (most : ℕ) where
+  -- by the numbers: itself, twice, crowded, of other roles
+  abbrev JoinSelf : ℕ → ℕ → TextCause → Type 0
+  JoinSelf p q = Row SelfEdge (p ≡ q)
 
-abbrev JoinTwice : List Edge → ℕ → ℕ → TextCause → Type 0
-JoinTwice edges p q = Row EdgeTwice (AreJoined edges p q)
+  abbrev JoinTwice : List Edge → ℕ → ℕ → TextCause → Type 0
+  JoinTwice edges p q = Row EdgeTwice (AreJoined edges p q)
 
-abbrev JoinOver : List Edge → ℕ → ℕ → TextCause → Type 0
-JoinOver edges p q cause = (k : ℕ) × (cause ≡ DegreeOver k) × IsFirstCrowded edges p q k
+  abbrev JoinOver : List Edge → ℕ → ℕ → TextCause → Type 0
+  JoinOver edges p q cause = (k : ℕ) × (cause ≡ DegreeOver k) × IsFirstCrowded most edges p q k
 
-abbrev JoinOther : List Process → List PairSpec → ℕ → ℕ → ℕ → TextCause → Type 0
-JoinOther processes kinds p q kind = Row RoleMismatch (AreOfKind processes kinds p q kind → ⊥)
+  abbrev JoinOther : List Process → List PairSpec → ℕ → ℕ → ℕ → TextCause → Type 0
+  JoinOther processes kinds p q kind = Row RoleMismatch (AreOfKind processes kinds p q kind → ⊥)
 
-abbrev JoinDegree : List Process → List PairSpec → List Edge → ℕ → ℕ → ℕ → TextCause → Type 0
-JoinDegree processes kinds edges p q kind = Or (JoinOver edges p q) (JoinOther processes kinds p q kind)
+  abbrev JoinDegree : List Process → List PairSpec → List Edge → ℕ → ℕ → ℕ → TextCause → Type 0
+  JoinDegree processes kinds edges p q kind = Or (JoinOver edges p q) (JoinOther processes kinds p q kind)
 
-abbrev JoinAgain : List Process → List PairSpec → List Edge → ℕ → ℕ → ℕ → TextCause → Type 0
-JoinAgain processes kinds edges p q kind = Or (JoinTwice edges p q) (JoinDegree processes kinds edges p q kind)
+  abbrev JoinAgain : List Process → List PairSpec → List Edge → ℕ → ℕ → ℕ → TextCause → Type 0
+  JoinAgain processes kinds edges p q kind = Or (JoinTwice edges p q) (JoinDegree processes kinds edges p q kind)
 
-over_from : (n : ℕ) (edges : List Edge) (p q : ℕ) → n ≤ 13 → From n (JoinOver edges p q)
-over_from n edges p q le cause (k, is, crowded) = let e : cause_no cause ≡ cause_no (DegreeOver k) = ap cause_no is in omega arith
+  over_from : (n : ℕ) (edges : List Edge) (p q : ℕ) → n ≤ 13 → From n (JoinOver edges p q)
+  over_from n edges p q le cause (k, is, crowded) = let e : cause_no cause ≡ cause_no (DegreeOver k) = ap cause_no is in omega arith
 
-over_lowest : (edges : List Edge) (p q k : ℕ) → IsFirstCrowded edges p q k → IsLowest (JoinOver edges p q) (DegreeOver k)
-over_lowest edges p q k first = record { stands = (k, refl, first); lowest = λ other lt h. let le = over_from 13 edges p q (omega arith) other h in omega arith }
+  over_lowest : (edges : List Edge) (p q k : ℕ) → IsFirstCrowded most edges p q k → IsLowest (JoinOver edges p q) (DegreeOver k)
+  over_lowest edges p q k first = record { stands = (k, refl, first); lowest = λ other lt h. let le = over_from 13 edges p q (omega arith) other h in omega arith }
 
-over_free : (edges : List Edge) (p q : ℕ) → ((k : ℕ) → IsCrowded edges p q k → ⊥) → IsFree (JoinOver edges p q)
-over_free edges p q none = record { free = λ cause h. none h.0 h.2.crowded }
+  over_free : (edges : List Edge) (p q : ℕ) → ((k : ℕ) → IsCrowded most edges p q k → ⊥) → IsFree (JoinOver edges p q)
+  over_free edges p q none = record { free = λ cause h. none h.0 h.2.crowded }
 
-other_from : (n : ℕ) (processes : List Process) (kinds : List PairSpec) (p q kind : ℕ) → n ≤ 14 → From n (JoinOther processes kinds p q kind)
-other_from n processes kinds p q kind le = from_row n RoleMismatch (AreOfKind processes kinds p q kind → ⊥) le
+  other_from : (n : ℕ) (processes : List Process) (kinds : List PairSpec) (p q kind : ℕ) → n ≤ 14 → From n (JoinOther processes kinds p q kind)
+  other_from n processes kinds p q kind le = from_row n RoleMismatch (AreOfKind processes kinds p q kind → ⊥) le
 
-degree_from : (n : ℕ) (processes : List Process) (kinds : List PairSpec) (edges : List Edge) (p q kind : ℕ) → n ≤ 13 → From n (JoinDegree processes kinds edges p q kind)
-degree_from n processes kinds edges p q kind le = from_or n (JoinOver edges p q) (JoinOther processes kinds p q kind) (over_from n edges p q le) (other_from n processes kinds p q kind (omega arith))
+  degree_from : (n : ℕ) (processes : List Process) (kinds : List PairSpec) (edges : List Edge) (p q kind : ℕ) → n ≤ 13 → From n (JoinDegree processes kinds edges p q kind)
+  degree_from n processes kinds edges p q kind le = from_or n (JoinOver edges p q) (JoinOther processes kinds p q kind) (over_from n edges p q le) (other_from n processes kinds p q kind (omega arith))
 
-again_from : (n : ℕ) (processes : List Process) (kinds : List PairSpec) (edges : List Edge) (p q kind : ℕ) → n ≤ 12 → From n (JoinAgain processes kinds edges p q kind)
-again_from n processes kinds edges p q kind le = from_or n (JoinTwice edges p q) (JoinDegree processes kinds edges p q kind) (from_row n EdgeTwice (AreJoined edges p q) le) (degree_from n processes kinds edges p q kind (omega arith))
+  again_from : (n : ℕ) (processes : List Process) (kinds : List PairSpec) (edges : List Edge) (p q kind : ℕ) → n ≤ 12 → From n (JoinAgain processes kinds edges p q kind)
+  again_from n processes kinds edges p q kind le = from_or n (JoinTwice edges p q) (JoinDegree processes kinds edges p q kind) (from_row n EdgeTwice (AreJoined edges p q) le) (degree_from n processes kinds edges p q kind (omega arith))
 
-pub join_from : (processes : List Process) (kinds : List PairSpec) (edges : List Edge) (p q kind : ℕ) → From 5 (JoinStands processes kinds edges p q kind)
-join_from processes kinds edges p q kind = from_or 5 (JoinSelf p q) (JoinAgain processes kinds edges p q kind) (from_row 5 SelfEdge (p ≡ q) (omega arith)) (again_from 5 processes kinds edges p q kind (omega arith))
+  pub join_from : (processes : List Process) (kinds : List PairSpec) (edges : List Edge) (p q kind : ℕ) → From 5 (JoinStands most processes kinds edges p q kind)
+  join_from processes kinds edges p q kind = from_or 5 (JoinSelf p q) (JoinAgain processes kinds edges p q kind) (from_row 5 SelfEdge (p ≡ q) (omega arith)) (again_from 5 processes kinds edges p q kind (omega arith))
 
-pub join_self : (processes : List Process) (kinds : List PairSpec) (edges : List Edge) (p q kind : ℕ) → p ≡ q → IsLowest (JoinStands processes kinds edges p q kind) SelfEdge
-join_self processes kinds edges p q kind same = or_left (JoinSelf p q) (JoinAgain processes kinds edges p q kind) SelfEdge (row_lowest SelfEdge (p ≡ q) same) (again_from 11 processes kinds edges p q kind (omega arith))
+  pub join_self : (processes : List Process) (kinds : List PairSpec) (edges : List Edge) (p q kind : ℕ) → p ≡ q → IsLowest (JoinStands most processes kinds edges p q kind) SelfEdge
+  join_self processes kinds edges p q kind same = or_left (JoinSelf p q) (JoinAgain processes kinds edges p q kind) SelfEdge (row_lowest SelfEdge (p ≡ q) same) (again_from 11 processes kinds edges p q kind (omega arith))
 
-pub join_twice : (processes : List Process) (kinds : List PairSpec) (edges : List Edge) (p q kind : ℕ) → (p ≡ q → ⊥) → AreJoined edges p q → IsLowest (JoinStands processes kinds edges p q kind) EdgeTwice
-join_twice processes kinds edges p q kind differ joined = or_right (JoinSelf p q) (JoinAgain processes kinds edges p q kind) EdgeTwice (row_free SelfEdge (p ≡ q) differ)
-    (or_left (JoinTwice edges p q) (JoinDegree processes kinds edges p q kind) EdgeTwice (row_lowest EdgeTwice (AreJoined edges p q) joined) (degree_from 12 processes kinds edges p q kind (omega arith)))
+  pub join_twice : (processes : List Process) (kinds : List PairSpec) (edges : List Edge) (p q kind : ℕ) → (p ≡ q → ⊥) → AreJoined edges p q → IsLowest (JoinStands most processes kinds edges p q kind) EdgeTwice
+  join_twice processes kinds edges p q kind differ joined = or_right (JoinSelf p q) (JoinAgain processes kinds edges p q kind) EdgeTwice (row_free SelfEdge (p ≡ q) differ)
+      (or_left (JoinTwice edges p q) (JoinDegree processes kinds edges p q kind) EdgeTwice (row_lowest EdgeTwice (AreJoined edges p q) joined) (degree_from 12 processes kinds edges p q kind (omega arith)))
 
-pub join_over : (processes : List Process) (kinds : List PairSpec) (edges : List Edge) (p q kind k : ℕ) → (p ≡ q → ⊥) → (AreJoined edges p q → ⊥) → IsFirstCrowded edges p q k → IsLowest (JoinStands processes kinds edges p q kind) (DegreeOver k)
-join_over processes kinds edges p q kind k differ fresh first = or_right (JoinSelf p q) (JoinAgain processes kinds edges p q kind) (DegreeOver k) (row_free SelfEdge (p ≡ q) differ)
-    (or_right (JoinTwice edges p q) (JoinDegree processes kinds edges p q kind) (DegreeOver k) (row_free EdgeTwice (AreJoined edges p q) fresh)
-    (or_left (JoinOver edges p q) (JoinOther processes kinds p q kind) (DegreeOver k) (over_lowest edges p q k first) (other_from 13 processes kinds p q kind (omega arith))))
+  pub join_over : (processes : List Process) (kinds : List PairSpec) (edges : List Edge) (p q kind k : ℕ) → (p ≡ q → ⊥) → (AreJoined edges p q → ⊥) → IsFirstCrowded most edges p q k → IsLowest (JoinStands most processes kinds edges p q kind) (DegreeOver k)
+  join_over processes kinds edges p q kind k differ fresh first = or_right (JoinSelf p q) (JoinAgain processes kinds edges p q kind) (DegreeOver k) (row_free SelfEdge (p ≡ q) differ)
+      (or_right (JoinTwice edges p q) (JoinDegree processes kinds edges p q kind) (DegreeOver k) (row_free EdgeTwice (AreJoined edges p q) fresh)
+      (or_left (JoinOver edges p q) (JoinOther processes kinds p q kind) (DegreeOver k) (over_lowest edges p q k first) (other_from 13 processes kinds p q kind (omega arith))))
 
-pub join_other : (processes : List Process) (kinds : List PairSpec) (edges : List Edge) (p q kind : ℕ) → (p ≡ q → ⊥) → (AreJoined edges p q → ⊥) → ((k : ℕ) → IsCrowded edges p q k → ⊥) → (AreOfKind processes kinds p q kind → ⊥) → IsLowest (JoinStands processes kinds edges p q kind) RoleMismatch
-join_other processes kinds edges p q kind differ fresh none mismatch = or_right (JoinSelf p q) (JoinAgain processes kinds edges p q kind) RoleMismatch (row_free SelfEdge (p ≡ q) differ)
-    (or_right (JoinTwice edges p q) (JoinDegree processes kinds edges p q kind) RoleMismatch (row_free EdgeTwice (AreJoined edges p q) fresh)
-    (or_right (JoinOver edges p q) (JoinOther processes kinds p q kind) RoleMismatch (over_free edges p q none) (row_lowest RoleMismatch (AreOfKind processes kinds p q kind → ⊥) mismatch)))
+  pub join_other : (processes : List Process) (kinds : List PairSpec) (edges : List Edge) (p q kind : ℕ) → (p ≡ q → ⊥) → (AreJoined edges p q → ⊥) → ((k : ℕ) → IsCrowded most edges p q k → ⊥) → (AreOfKind processes kinds p q kind → ⊥) → IsLowest (JoinStands most processes kinds edges p q kind) RoleMismatch
+  join_other processes kinds edges p q kind differ fresh none mismatch = or_right (JoinSelf p q) (JoinAgain processes kinds edges p q kind) RoleMismatch (row_free SelfEdge (p ≡ q) differ)
+      (or_right (JoinTwice edges p q) (JoinDegree processes kinds edges p q kind) RoleMismatch (row_free EdgeTwice (AreJoined edges p q) fresh)
+      (or_right (JoinOver edges p q) (JoinOther processes kinds p q kind) RoleMismatch (over_free edges p q none) (row_lowest RoleMismatch (AreOfKind processes kinds p q kind → ⊥) mismatch)))
 
-pub join_free : (processes : List Process) (kinds : List PairSpec) (edges : List Edge) (p q kind : ℕ) → (p ≡ q → ⊥) → (AreJoined edges p q → ⊥) → ((k : ℕ) → IsCrowded edges p q k → ⊥) → AreOfKind processes kinds p q kind → IsFree (JoinStands processes kinds edges p q kind)
-join_free processes kinds edges p q kind differ fresh none of_kind = or_free (JoinSelf p q) (JoinAgain processes kinds edges p q kind) (row_free SelfEdge (p ≡ q) differ)
-    (or_free (JoinTwice edges p q) (JoinDegree processes kinds edges p q kind) (row_free EdgeTwice (AreJoined edges p q) fresh)
-    (or_free (JoinOver edges p q) (JoinOther processes kinds p q kind) (over_free edges p q none) (row_free RoleMismatch (AreOfKind processes kinds p q kind → ⊥) (λ h. h of_kind))))
+  pub join_free : (processes : List Process) (kinds : List PairSpec) (edges : List Edge) (p q kind : ℕ) → (p ≡ q → ⊥) → (AreJoined edges p q → ⊥) → ((k : ℕ) → IsCrowded most edges p q k → ⊥) → AreOfKind processes kinds p q kind → IsFree (JoinStands most processes kinds edges p q kind)
+  join_free processes kinds edges p q kind differ fresh none of_kind = or_free (JoinSelf p q) (JoinAgain processes kinds edges p q kind) (row_free SelfEdge (p ≡ q) differ)
+      (or_free (JoinTwice edges p q) (JoinDegree processes kinds edges p q kind) (row_free EdgeTwice (AreJoined edges p q) fresh)
+      (or_free (JoinOver edges p q) (JoinOther processes kinds p q kind) (over_free edges p q none) (row_free RoleMismatch (AreOfKind processes kinds p q kind → ⊥) (λ h. h of_kind))))
 
--- an edge: both names, the kind, then the numbers
-abbrev JoinNamed : List Process → List PairSpec → List Edge → List ℕ → List ℕ → List ℕ → TextCause → Type 0
-JoinNamed processes kinds edges p q kind = JoinStands processes kinds edges (number_in (process_names processes) p) (number_in (process_names processes) q) (number_in (kind_names kinds) kind)
+  -- an edge: both names, the kind, then the numbers
+  abbrev JoinNamed : List Process → List PairSpec → List Edge → List ℕ → List ℕ → List ℕ → TextCause → Type 0
+  JoinNamed processes kinds edges p q kind = JoinStands most processes kinds edges (number_in (process_names processes) p) (number_in (process_names processes) q) (number_in (kind_names kinds) kind)
 
-abbrev EdgeKind : List Process → List PairSpec → List Edge → List ℕ → List ℕ → List ℕ → TextCause → Type 0
-EdgeKind processes kinds edges p q kind = Or (UseStands (kind_names kinds) kind) (JoinNamed processes kinds edges p q kind)
+  abbrev EdgeKind : List Process → List PairSpec → List Edge → List ℕ → List ℕ → List ℕ → TextCause → Type 0
+  EdgeKind processes kinds edges p q kind = Or (UseStands (kind_names kinds) kind) (JoinNamed processes kinds edges p q kind)
 
-abbrev EdgeTo : List Process → List PairSpec → List Edge → List ℕ → List ℕ → List ℕ → TextCause → Type 0
-EdgeTo processes kinds edges p q kind = Or (UseStands (process_names processes) q) (EdgeKind processes kinds edges p q kind)
+  abbrev EdgeTo : List Process → List PairSpec → List Edge → List ℕ → List ℕ → List ℕ → TextCause → Type 0
+  EdgeTo processes kinds edges p q kind = Or (UseStands (process_names processes) q) (EdgeKind processes kinds edges p q kind)
 
-named_from : (processes : List Process) (kinds : List PairSpec) (edges : List Edge) (p q kind : List ℕ) → From 5 (JoinNamed processes kinds edges p q kind)
-named_from processes kinds edges p q kind = join_from processes kinds edges (number_in (process_names processes) p) (number_in (process_names processes) q) (number_in (kind_names kinds) kind)
+  named_from : (processes : List Process) (kinds : List PairSpec) (edges : List Edge) (p q kind : List ℕ) → From 5 (JoinNamed processes kinds edges p q kind)
+  named_from processes kinds edges p q kind = join_from processes kinds edges (number_in (process_names processes) p) (number_in (process_names processes) q) (number_in (kind_names kinds) kind)
 
-edge_kind_from : (processes : List Process) (kinds : List PairSpec) (edges : List Edge) (p q kind : List ℕ) → From 5 (EdgeKind processes kinds edges p q kind)
-edge_kind_from processes kinds edges p q kind = from_or 5 (UseStands (kind_names kinds) kind) (JoinNamed processes kinds edges p q kind) (use_from (kind_names kinds) kind) (named_from processes kinds edges p q kind)
+  edge_kind_from : (processes : List Process) (kinds : List PairSpec) (edges : List Edge) (p q kind : List ℕ) → From 5 (EdgeKind processes kinds edges p q kind)
+  edge_kind_from processes kinds edges p q kind = from_or 5 (UseStands (kind_names kinds) kind) (JoinNamed processes kinds edges p q kind) (use_from (kind_names kinds) kind) (named_from processes kinds edges p q kind)
 
-edge_to_from : (processes : List Process) (kinds : List PairSpec) (edges : List Edge) (p q kind : List ℕ) → From 5 (EdgeTo processes kinds edges p q kind)
-edge_to_from processes kinds edges p q kind = from_or 5 (UseStands (process_names processes) q) (EdgeKind processes kinds edges p q kind) (use_from (process_names processes) q) (edge_kind_from processes kinds edges p q kind)
+  edge_to_from : (processes : List Process) (kinds : List PairSpec) (edges : List Edge) (p q kind : List ℕ) → From 5 (EdgeTo processes kinds edges p q kind)
+  edge_to_from processes kinds edges p q kind = from_or 5 (UseStands (process_names processes) q) (EdgeKind processes kinds edges p q kind) (use_from (process_names processes) q) (edge_kind_from processes kinds edges p q kind)
 
-pub edge_from_unknown : (processes : List Process) (kinds : List PairSpec) (edges : List Edge) (p q kind : List ℕ) → (Contains (process_names processes) p → ⊥) → IsLowest (EdgeStands processes kinds edges p q kind) UnknownName
-edge_from_unknown processes kinds edges p q kind unknown = use_first (process_names processes) p (EdgeTo processes kinds edges p q kind) unknown (edge_to_from processes kinds edges p q kind)
+  pub edge_from_unknown : (processes : List Process) (kinds : List PairSpec) (edges : List Edge) (p q kind : List ℕ) → (Contains (process_names processes) p → ⊥) → IsLowest (EdgeStands most processes kinds edges p q kind) UnknownName
+  edge_from_unknown processes kinds edges p q kind unknown = use_first (process_names processes) p (EdgeTo processes kinds edges p q kind) unknown (edge_to_from processes kinds edges p q kind)
 
-pub edge_to_unknown : (processes : List Process) (kinds : List PairSpec) (edges : List Edge) (p q kind : List ℕ) → Contains (process_names processes) p → (Contains (process_names processes) q → ⊥) → IsLowest (EdgeStands processes kinds edges p q kind) UnknownName
-edge_to_unknown processes kinds edges p q kind there unknown = use_then (process_names processes) p (EdgeTo processes kinds edges p q kind) UnknownName there
-    (use_first (process_names processes) q (EdgeKind processes kinds edges p q kind) unknown (edge_kind_from processes kinds edges p q kind))
+  pub edge_to_unknown : (processes : List Process) (kinds : List PairSpec) (edges : List Edge) (p q kind : List ℕ) → Contains (process_names processes) p → (Contains (process_names processes) q → ⊥) → IsLowest (EdgeStands most processes kinds edges p q kind) UnknownName
+  edge_to_unknown processes kinds edges p q kind there unknown = use_then (process_names processes) p (EdgeTo processes kinds edges p q kind) UnknownName there
+      (use_first (process_names processes) q (EdgeKind processes kinds edges p q kind) unknown (edge_kind_from processes kinds edges p q kind))
 
-pub edge_kind_unknown : (processes : List Process) (kinds : List PairSpec) (edges : List Edge) (p q kind : List ℕ) → Contains (process_names processes) p → Contains (process_names processes) q → (Contains (kind_names kinds) kind → ⊥) → IsLowest (EdgeStands processes kinds edges p q kind) UnknownName
-edge_kind_unknown processes kinds edges p q kind there here unknown = use_then (process_names processes) p (EdgeTo processes kinds edges p q kind) UnknownName there
-    (use_then (process_names processes) q (EdgeKind processes kinds edges p q kind) UnknownName here
-    (use_first (kind_names kinds) kind (JoinNamed processes kinds edges p q kind) unknown (named_from processes kinds edges p q kind)))
+  pub edge_kind_unknown : (processes : List Process) (kinds : List PairSpec) (edges : List Edge) (p q kind : List ℕ) → Contains (process_names processes) p → Contains (process_names processes) q → (Contains (kind_names kinds) kind → ⊥) → IsLowest (EdgeStands most processes kinds edges p q kind) UnknownName
+  edge_kind_unknown processes kinds edges p q kind there here unknown = use_then (process_names processes) p (EdgeTo processes kinds edges p q kind) UnknownName there
+      (use_then (process_names processes) q (EdgeKind processes kinds edges p q kind) UnknownName here
+      (use_first (kind_names kinds) kind (JoinNamed processes kinds edges p q kind) unknown (named_from processes kinds edges p q kind)))
 
-pub edge_lowest : (processes : List Process) (kinds : List PairSpec) (edges : List Edge) (p q kind : List ℕ) (cause : TextCause) → Contains (process_names processes) p → Contains (process_names processes) q → Contains (kind_names kinds) kind
-    → IsLowest (JoinNamed processes kinds edges p q kind) cause → IsLowest (EdgeStands processes kinds edges p q kind) cause
-edge_lowest processes kinds edges p q kind cause there here known least = use_then (process_names processes) p (EdgeTo processes kinds edges p q kind) cause there
-    (use_then (process_names processes) q (EdgeKind processes kinds edges p q kind) cause here
-    (use_then (kind_names kinds) kind (JoinNamed processes kinds edges p q kind) cause known least))
+  pub edge_lowest : (processes : List Process) (kinds : List PairSpec) (edges : List Edge) (p q kind : List ℕ) (cause : TextCause) → Contains (process_names processes) p → Contains (process_names processes) q → Contains (kind_names kinds) kind
+      → IsLowest (JoinNamed processes kinds edges p q kind) cause → IsLowest (EdgeStands most processes kinds edges p q kind) cause
+  edge_lowest processes kinds edges p q kind cause there here known least = use_then (process_names processes) p (EdgeTo processes kinds edges p q kind) cause there
+      (use_then (process_names processes) q (EdgeKind processes kinds edges p q kind) cause here
+      (use_then (kind_names kinds) kind (JoinNamed processes kinds edges p q kind) cause known least))
 
-pub edge_free : (processes : List Process) (kinds : List PairSpec) (edges : List Edge) (p q kind : List ℕ) → Contains (process_names processes) p → Contains (process_names processes) q → Contains (kind_names kinds) kind
-    → IsFree (JoinNamed processes kinds edges p q kind) → IsFree (EdgeStands processes kinds edges p q kind)
-edge_free processes kinds edges p q kind there here known free = use_none (process_names processes) p (EdgeTo processes kinds edges p q kind) there
-    (use_none (process_names processes) q (EdgeKind processes kinds edges p q kind) here
-    (use_none (kind_names kinds) kind (JoinNamed processes kinds edges p q kind) known free))
+  pub edge_free : (processes : List Process) (kinds : List PairSpec) (edges : List Edge) (p q kind : List ℕ) → Contains (process_names processes) p → Contains (process_names processes) q → Contains (kind_names kinds) kind
+      → IsFree (JoinNamed processes kinds edges p q kind) → IsFree (EdgeStands most processes kinds edges p q kind)
+  edge_free processes kinds edges p q kind there here known free = use_none (process_names processes) p (EdgeTo processes kinds edges p q kind) there
+      (use_none (process_names processes) q (EdgeKind processes kinds edges p q kind) here
+      (use_none (kind_names kinds) kind (JoinNamed processes kinds edges p q kind) known free))

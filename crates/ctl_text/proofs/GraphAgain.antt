@@ -16,6 +16,7 @@ use Rattle.interconnection.specs.Network.{AreLawful, BeginsInStart}
 use Rattle.text_cause.specs.declared.cause.TextCause.{TextCause}
 use Rattle.ctl_text.specs.Cause.{AreOfKind}
 use Rattle.ctl_text.specs.inside.LineCause.{BeginStands, ProcessStands, JoinStands, EdgeStands}
+use Rattle.ctl_text.specs.declared.format.Format.TheVariants.{Second}
 use Rattle.ctl_text.specs.Item.{head_line, done_line}
 use Rattle.ctl_text.specs.SoundValue.{Differ, IsNamedRole, IsNamedKind, IsNamedProcess, IsSoundValue}
 use Rattle.ctl_text.specs.SpecText.{line_for, role_lines, kind_lines, process_item, process_text, start_name, edge_item, edge_text, spec_lines, spec_text}
@@ -48,14 +49,14 @@ edge_of v h k d lt =
       of_kind = record { role_a = (h.matching k d lt).0 ∙ ap (λ (ends : ℕ × ℕ). ends.0) at; role_b = (h.matching k d lt).1 ∙ ap (λ (ends : ℕ × ℕ). ends.1) at };
     }
 
-begin_free : (r : RoleParts) (ps : List Process) (name : List ℕ) (p : ℕ) (start : Option (List ℕ)) → NamesStart r p start → (Contains (process_names ps) name → ⊥) → length (process_names ps) < MAX_PROCESSES → (cause : TextCause) → BeginStands r ps name start cause → ⊥
+begin_free : (r : RoleParts) (ps : List Process) (name : List ℕ) (p : ℕ) (start : Option (List ℕ)) → NamesStart r p start → (Contains (process_names ps) name → ⊥) → length (process_names ps) < MAX_PROCESSES → (cause : TextCause) → BeginStands MAX_PROCESSES r ps name start cause → ⊥
 begin_free r ps name p start names fresh few cause (inl h) = names.known h.1
 begin_free r ps name p start names fresh few cause (inr (inl h)) = name_free (process_names ps) MAX_PROCESSES name fresh few cause h
 begin_free r ps name p start names fresh few cause (inr (inr h)) = names.begins h.1
 
-process_free : (rs : List RoleParts) (ps : List Process) (name r : List ℕ) (k p : ℕ) (start : Option (List ℕ)) → Contains (role_names rs) r → number_in (role_names rs) r ≡ k → NamesStart (role_at rs k) p start → (Contains (process_names ps) name → ⊥) → length (process_names ps) < MAX_PROCESSES → (cause : TextCause) → ProcessStands rs ps name r start cause → ⊥
+process_free : (rs : List RoleParts) (ps : List Process) (name r : List ℕ) (k p : ℕ) (start : Option (List ℕ)) → Contains (role_names rs) r → number_in (role_names rs) r ≡ k → NamesStart (role_at rs k) p start → (Contains (process_names ps) name → ⊥) → length (process_names ps) < MAX_PROCESSES → (cause : TextCause) → ProcessStands MAX_PROCESSES rs ps name r start cause → ⊥
 process_free rs ps name r k p start there is names fresh few cause (inl h) = use_free (role_names rs) r there cause h
-process_free rs ps name r k p start there is names fresh few cause (inr h) = begin_free (role_at rs k) ps name p start names fresh few cause (subst (λ (n : ℕ). BeginStands (role_at rs n) ps name start cause) is h)
+process_free rs ps name r k p start there is names fresh few cause (inr h) = begin_free (role_at rs k) ps name p start names fresh few cause (subst (λ (n : ℕ). BeginStands MAX_PROCESSES (role_at rs n) ps name start cause) is h)
 
 process_again : (p : Process) (role start : ℕ) → role ≡ p.role → start ≡ p.start → ◌≡◌ {A = Process} (record { name = p.name; role = role; start = start }) p
 process_again p role start role_is start_is = rw (role_is, start_is) refl
@@ -104,7 +105,7 @@ apart front e back differ (i, x, lt, is, ends) =
     differ i (length front) e lt (omega (arith, length-append front (e ∷ back))) (subst (λ (z : Edge). JoinSame z (get_or (front ++ e ∷ back) (length front) e)) (sym first) (subst (λ (z : Edge). JoinSame x z) (sym last) ends))
 
 join_free : (ps : List Process) (ks : List PairSpec) (front : List Edge) (e : Edge) (back : List Edge) → IsEdgeOf ps ks e → AllPairs (λ (x y : Edge). JoinSame x y → ⊥) (front ++ e ∷ back) → ((k : ℕ) → degree_of (front ++ e ∷ back) k ≤ MAX_NEIGHBOURS)
-    → (cause : TextCause) → JoinStands ps ks front e.a e.b e.kind cause → ⊥
+    → (cause : TextCause) → JoinStands MAX_NEIGHBOURS ps ks front e.a e.b e.kind cause → ⊥
 join_free ps ks front e back is differ few cause (inl h) = is.differ h.1
 join_free ps ks front e back is differ few cause (inr (inl h)) = apart front e back differ h.1
 join_free ps ks front e back is differ few cause (inr (inr (inl (k, c, crowded)))) =
@@ -112,12 +113,12 @@ join_free ps ks front e back is differ few cause (inr (inr (inl (k, c, crowded))
 join_free ps ks front e back is differ few cause (inr (inr (inr h))) = h.1 is.of_kind
 
 edge_free : (ps : List Process) (ks : List PairSpec) (front : List Edge) (e : Edge) (p q kind : List ℕ) → Contains (process_names ps) p → Contains (process_names ps) q → Contains (kind_names ks) kind
-    → number_in (process_names ps) p ≡ e.a → number_in (process_names ps) q ≡ e.b → number_in (kind_names ks) kind ≡ e.kind → ((cause : TextCause) → JoinStands ps ks front e.a e.b e.kind cause → ⊥) → (cause : TextCause) → EdgeStands ps ks front p q kind cause → ⊥
+    → number_in (process_names ps) p ≡ e.a → number_in (process_names ps) q ≡ e.b → number_in (kind_names ks) kind ≡ e.kind → ((cause : TextCause) → JoinStands MAX_NEIGHBOURS ps ks front e.a e.b e.kind cause → ⊥) → (cause : TextCause) → EdgeStands MAX_NEIGHBOURS ps ks front p q kind cause → ⊥
 edge_free ps ks front e p q kind there_p there_q there_k a_is b_is k_is free cause (inl h) = h.1 there_p
 edge_free ps ks front e p q kind there_p there_q there_k a_is b_is k_is free cause (inr (inl h)) = h.1 there_q
 edge_free ps ks front e p q kind there_p there_q there_k a_is b_is k_is free cause (inr (inr (inl h))) = h.1 there_k
 edge_free ps ks front e p q kind there_p there_q there_k a_is b_is k_is free cause (inr (inr (inr h))) =
-    free cause (subst (λ (z : ℕ). JoinStands ps ks front e.a e.b z cause) k_is (subst (λ (y : ℕ). JoinStands ps ks front e.a y (number_in (kind_names ks) kind) cause) b_is (subst (λ (x : ℕ). JoinStands ps ks front x (number_in (process_names ps) q) (number_in (kind_names ks) kind) cause) a_is h)))
+    free cause (subst (λ (z : ℕ). JoinStands MAX_NEIGHBOURS ps ks front e.a e.b z cause) k_is (subst (λ (y : ℕ). JoinStands MAX_NEIGHBOURS ps ks front e.a y (number_in (kind_names ks) kind) cause) b_is (subst (λ (x : ℕ). JoinStands MAX_NEIGHBOURS ps ks front x (number_in (process_names ps) q) (number_in (kind_names ks) kind) cause) a_is h)))
 
 edge_again : (e : Edge) (a b kind : ℕ) → a ≡ e.a → b ≡ e.b → kind ≡ e.kind → ◌≡◌ {A = Edge} (record { a = a; b = b; kind = kind }) e
 edge_again e a b kind ha hb hk = rw (ha, hb, hk) refl
@@ -153,4 +154,4 @@ text_stands v is =
     let from_processes = λ (g : Group) (lets : LetsProcesses g). processes_go g v.roles v.kinds [] v.processes edges last lets is.roles is.roles_differ is.processes is.network.own_starts is.processes_differ is.network.few_processes from_edges in
     let from_kinds = kinds_go among_roles v.roles [] v.kinds processes last (λ name a b. tt, (λ name r start. tt, (λ p q kind. tt, tt))) is.roles is.roles_differ is.kinds is.kinds_differ few_kinds from_processes in
     let from_roles = goes_further (At [] [] [] [] among_roles) (At v.roles [] [] [] among_roles) last (flat_map role_lines v.roles) kinds (roles_go [] v.roles is.roles is.roles_differ is.network.few_roles) from_kinds in
-    goes_stand first_state last (spec_lines v) v (item_goes first_state last head_line (flat_map role_lines v.roles ++ kinds) tt tt tt (record { free = λ cause h. h }) from_roles) (refl, refl)
+    goes_stand first_state last (spec_lines v) v (item_goes first_state last (head_line Second) (flat_map role_lines v.roles ++ kinds) tt tt tt (record { free = λ cause h. h }) from_roles) (refl, refl)

@@ -95,8 +95,8 @@ one_more edges e k =
     let split = ap length (other_ends-append edges e k) ∙ length-append (other_ends edges k) (other_end k e) in omega (arith, before, after, split)
 
 -- a process that the edge joins has room for it
-pub degree_grown : (edges : List Edge) (e : Edge) (k : ℕ) → ((n : ℕ) → IsCrowded edges e.a e.b n → ⊥) → degree_of edges k ≤ MAX_NEIGHBOURS → degree_of (edges ++ e ∷ []) k ≤ MAX_NEIGHBOURS
-degree_grown edges e k none few = elim (cases_eq e.a k) [
+pub degree_grown : (most : ℕ) (edges : List Edge) (e : Edge) (k : ℕ) → ((n : ℕ) → IsCrowded most edges e.a e.b n → ⊥) → degree_of edges k ≤ most → degree_of (edges ++ e ∷ []) k ≤ most
+degree_grown most edges e k none few = elim (cases_eq e.a k) [
   | inl same ↦ joined (inl (sym same))
   | inr apart ↦ elim (cases_eq e.b k) [
     | inl same ↦ joined (inr (sym same))
@@ -104,16 +104,16 @@ degree_grown edges e k none few = elim (cases_eq e.a k) [
   ]
 ]
   where
-    joined : (k ≡ e.a) ⊎ (k ≡ e.b) → degree_of (edges ++ e ∷ []) k ≤ MAX_NEIGHBOURS
-    joined at = elim (cases_lt (degree_of edges k) MAX_NEIGHBOURS) [
+    joined : (k ≡ e.a) ⊎ (k ≡ e.b) → degree_of (edges ++ e ∷ []) k ≤ most
+    joined at = elim (cases_lt (degree_of edges k) most) [
       | inl lt ↦ (let one = few_ends (e.a == k) (e.b == k) e.b e.a in omega (arith, one, one_more edges e k, lt))
       | inr full ↦ absurd (none k (record { one_of = at; degree = full }))
     ]
 
-pub edge_grown : (roles : List RoleParts) (ends : List (ℕ × ℕ)) (processes : List Process) (edges : List Edge) (e : Edge)
-    → AreLawful roles ends processes edges → IsInRange ends processes e → JoinsTwo e → (AreJoined edges e.a e.b → ⊥) → HasRoles ends processes e → ((k : ℕ) → IsCrowded edges e.a e.b k → ⊥) → ((k : ℕ) → degree_of edges k ≤ MAX_NEIGHBOURS)
+pub edge_grown : (most : ℕ) (roles : List RoleParts) (ends : List (ℕ × ℕ)) (processes : List Process) (edges : List Edge) (e : Edge)
+    → most ≤ MAX_NEIGHBOURS → AreLawful roles ends processes edges → IsInRange ends processes e → JoinsTwo e → (AreJoined edges e.a e.b → ⊥) → HasRoles ends processes e → ((k : ℕ) → IsCrowded most edges e.a e.b k → ⊥) → ((k : ℕ) → degree_of edges k ≤ most)
     → AreLawful roles ends processes (edges ++ e ∷ [])
-edge_grown roles ends processes edges e h within differ fresh fits none few = record {
+edge_grown most roles ends processes edges e small h within differ fresh fits none few = record {
   few_roles = h.few_roles;
   few_kinds = h.few_kinds;
   few_processes = h.few_processes;
@@ -124,7 +124,7 @@ edge_grown roles ends processes edges e h within differ fresh fits none few = re
   joins_two = All-push JoinsTwo edges e h.joins_two differ;
   single = all_pairs_push (λ x y. JoinSame x y → ⊥) edges e h.single (λ k d lt same. fresh (k, get_or edges k d, lt, get_or_default edges k (get_or edges k d) d lt, same));
   matching = All-push (HasRoles ends processes) edges e h.matching fits;
-  degrees = λ k lt. degree_grown edges e k none (few k);
+  degrees = λ k lt. let le = degree_grown most edges e k none (few k) in omega (arith, le, small);
 }
 
 -- the ends of the kinds

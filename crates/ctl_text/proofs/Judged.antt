@@ -4,10 +4,11 @@ use Rattle.text_cause.specs.declared.cause.TextCause.{TextCause}
 use Rattle.text_cause.specs.declared.cause.TextCause.TheVariants.{NotText, BadHead, Long, BadLine}
 use Rattle.strict_text.specs.Pieces.{loose_words_of}
 use Rattle.ctl_text.specs.Lines.{IsText, ArePassed, IsRequire}
+use Rattle.ctl_text.specs.declared.format.Format.{Format}
 use Rattle.ctl_text.specs.Item.{Said, head_line, words_for}
-use Rattle.ctl_text.specs.State.{State, Group, before_head, among_roles, in_role, among_kinds, in_kind, among_processes, among_edges, after_done, MayStand, after}
+use Rattle.ctl_text.specs.State.{State, Group, before_head, among_roles, in_role, among_kinds, in_kind, among_processes, among_edges, after_done, MayStand, after_line}
 use Rattle.text_cause.specs.Cause.{IsLowest, IsFree, cause_no}
-use Rattle.ctl_text.specs.Cause.{Blocks, MaySay, IsLongLine, WordsStand, Stands, Takes}
+use Rattle.ctl_text.specs.Cause.{BarsLine, MaySay, IsLongLine, WordsStand, Stands, Takes}
 use Rattle.text_cause.specs.declared.line_fault.LineFault.{LineFault}
 use Rattle.text_cause.specs.declared.line_fault.LineFault.TheVariants.{Bad, Memory}
 use Rattle.text_cause.specs.Answers.{IsBadBy}
@@ -17,8 +18,8 @@ use Rattle.ctl_text.specs.inside.LineCause.{LineBlocks}
 use Rattle.ctl_text.proofs.ByCause.{lowest_by_cause}
 use Rattle.ctl_text.proofs.ItemLaws.{says_once, other_clause}
 
-head_only : (g : Group) (x : Said) → MayStand g x → g ≡ before_head → x ≡ head_line
-head_only before_head head_line may is = refl
+head_only : (g : Group) (x : Said) → MayStand g x → g ≡ before_head → (format : Format) × (x ≡ head_line format)
+head_only before_head (head_line format) may is = (format, refl)
 head_only before_head x may is = absurd may
 head_only g x may is = cc
 
@@ -32,72 +33,72 @@ head_below s words none other lt (inr (inl h)) = let e = number_is other Long h.
 head_below s words none other lt (inr (inr (inl h))) = let e = number_is other BadLine h.0 in omega arith
 head_below s words none other lt (inr (inr (inr (item, may, blocks)))) = none item may
 
-not_head : (s : State) (words : List (List ℕ)) → s.group ≡ before_head → ((item : Said) → MaySay s words item → ⊥) → words ≡ words_for head_line → ⊥
-not_head s words is none words_are = none head_line (record { words_are = words_are; spelled = tt }, subst (λ g. MayStand g head_line) (sym is) tt, tt)
+not_head : (s : State) (words : List (List ℕ)) → s.group ≡ before_head → ((item : Said) → MaySay s words item → ⊥) → (format : Format) → words ≡ words_for (head_line format) → ⊥
+not_head s words is none format words_are = none (head_line format) (record { words_are = words_are; spelled = tt }, subst (λ g. MayStand g (head_line format)) (sym is) tt, tt)
 
 pub head_lowest : (s : State) (words : List (List ℕ)) → s.group ≡ before_head → ((item : Said) → MaySay s words item → ⊥) → IsLowest (WordsStand s words) BadHead
 head_lowest s words is none = record { stands = inl (refl, record { first = is; other = not_head s words is none }); lowest = head_below s words none }
 
 -- and below it
-line_below : (s : State) (words : List (List ℕ)) → (s.group ≡ before_head → ⊥) → (IsLongLine words → ⊥) → ((item : Said) → MaySay s words item → ⊥) → (other : TextCause) → cause_no other < 4 → WordsStand s words other → ⊥
+line_below : (s : State) (words : List (List ℕ)) → (s.group ≡ before_head → ⊥) → (IsLongLine s words → ⊥) → ((item : Said) → MaySay s words item → ⊥) → (other : TextCause) → cause_no other < 4 → WordsStand s words other → ⊥
 line_below s words below short none other lt (inl h) = below h.1.first
 line_below s words below short none other lt (inr (inl h)) = short h.1
 line_below s words below short none other lt (inr (inr (inl h))) = let e = number_is other BadLine h.0 in omega arith
 line_below s words below short none other lt (inr (inr (inr (item, may, blocks)))) = none item may
 
-pub line_lowest : (s : State) (words : List (List ℕ)) → (s.group ≡ before_head → ⊥) → (IsLongLine words → ⊥) → ((item : Said) → MaySay s words item → ⊥) → IsLowest (WordsStand s words) BadLine
+pub line_lowest : (s : State) (words : List (List ℕ)) → (s.group ≡ before_head → ⊥) → (IsLongLine s words → ⊥) → ((item : Said) → MaySay s words item → ⊥) → IsLowest (WordsStand s words) BadLine
 line_lowest s words below short none = record { stands = inr (inr (inl (refl, none))); lowest = line_below s words below short none }
 
-pub no_long : (words : List (List ℕ)) → (IsRequire words → ⊥) → IsLongLine words → ⊥
-no_long [] other h = h
-no_long (word ∷ words) other h = other h.0
+pub no_long : (s : State) (words : List (List ℕ)) → (IsRequire words → ⊥) → IsLongLine s words → ⊥
+no_long s [] other h = h
+no_long s (word ∷ words) other h = other h.0
 
 moved : (s : State) (h : Group) (words : List (List ℕ)) → s.group ≡ h → ((item : Said) → CanSay h words item → ⊥) → (item : Said) → MaySay s words item → ⊥
 moved s h words e none item may = none item (may.0, subst (λ g. MayStand g item) e may.1)
 
 pub misplaced_lowest : (s : State) (g : Group) (words : List (List ℕ)) → s.group ≡ g → (IsRequire words → ⊥) → ((item : Said) → CanSay g words item → ⊥) → IsLowest (WordsStand s words) (misplaced g)
 misplaced_lowest s before_head words is other none = head_lowest s words is (moved s _ words is none)
-misplaced_lowest s among_roles words is other none = line_lowest s words (λ e. let h = sym is ∙ e in cc) (no_long words other) (moved s _ words is none)
-misplaced_lowest s (in_role r) words is other none = line_lowest s words (λ e. let h = sym is ∙ e in cc) (no_long words other) (moved s _ words is none)
-misplaced_lowest s among_kinds words is other none = line_lowest s words (λ e. let h = sym is ∙ e in cc) (no_long words other) (moved s _ words is none)
-misplaced_lowest s (in_kind k) words is other none = line_lowest s words (λ e. let h = sym is ∙ e in cc) (no_long words other) (moved s _ words is none)
-misplaced_lowest s among_processes words is other none = line_lowest s words (λ e. let h = sym is ∙ e in cc) (no_long words other) (moved s _ words is none)
-misplaced_lowest s among_edges words is other none = line_lowest s words (λ e. let h = sym is ∙ e in cc) (no_long words other) (moved s _ words is none)
-misplaced_lowest s after_done words is other none = line_lowest s words (λ e. let h = sym is ∙ e in cc) (no_long words other) (moved s _ words is none)
+misplaced_lowest s among_roles words is other none = line_lowest s words (λ e. let h = sym is ∙ e in cc) (no_long s words other) (moved s _ words is none)
+misplaced_lowest s (in_role r) words is other none = line_lowest s words (λ e. let h = sym is ∙ e in cc) (no_long s words other) (moved s _ words is none)
+misplaced_lowest s among_kinds words is other none = line_lowest s words (λ e. let h = sym is ∙ e in cc) (no_long s words other) (moved s _ words is none)
+misplaced_lowest s (in_kind k) words is other none = line_lowest s words (λ e. let h = sym is ∙ e in cc) (no_long s words other) (moved s _ words is none)
+misplaced_lowest s among_processes words is other none = line_lowest s words (λ e. let h = sym is ∙ e in cc) (no_long s words other) (moved s _ words is none)
+misplaced_lowest s among_edges words is other none = line_lowest s words (λ e. let h = sym is ∙ e in cc) (no_long s words other) (moved s _ words is none)
+misplaced_lowest s after_done words is other none = line_lowest s words (λ e. let h = sym is ∙ e in cc) (no_long s words other) (moved s _ words is none)
 
 pub may_say : (s : State) (words : List (List ℕ)) (item : Said) → (IsRequire words → ⊥) → CanSay s.group words item → MaySay s words item
 may_say s words item other can = (can.0, can.1, other_clause s words item other can.0)
 
 -- where the words say something that may stand there
-said_head : (s : State) (words : List (List ℕ)) (item : Said) → MaySay s words item → s.group ≡ before_head → words ≡ words_for head_line
-said_head s words item may is = may.0.words_are ∙ ap words_for (head_only s.group item may.1 is)
+said_head : (s : State) (words : List (List ℕ)) (item : Said) → MaySay s words item → s.group ≡ before_head → (format : Format) × (words ≡ words_for (head_line format))
+said_head s words item may is = let (format, head) = head_only s.group item may.1 is in (format, may.0.words_are ∙ ap words_for head)
 
-blocked_below : (s : State) (words : List (List ℕ)) (item : Said) (cause : TextCause) → MaySay s words item → (IsLongLine words → ⊥) → IsLowest (Blocks s item) cause → (other : TextCause) → cause_no other < cause_no cause → WordsStand s words other → ⊥
-blocked_below s words item cause may short least other lt (inl h) = h.1.other (said_head s words item may h.1.first)
+blocked_below : (s : State) (words : List (List ℕ)) (item : Said) (cause : TextCause) → MaySay s words item → (IsLongLine s words → ⊥) → IsLowest (BarsLine s item) cause → (other : TextCause) → cause_no other < cause_no cause → WordsStand s words other → ⊥
+blocked_below s words item cause may short least other lt (inl h) = (let (format, head) = said_head s words item may h.1.first in h.1.other format head)
 blocked_below s words item cause may short least other lt (inr (inl h)) = short h.1
 blocked_below s words item cause may short least other lt (inr (inr (inl h))) = h.1 item may
 blocked_below s words item cause may short least other lt (inr (inr (inr (y, y_may, blocks)))) =
-    least.lowest other lt (subst (λ y. Blocks s y other) (says_once s words y item y_may may) blocks)
+    least.lowest other lt (subst (λ y. BarsLine s y other) (says_once s words y item y_may may) blocks)
 
-pub blocked_lowest : (s : State) (words : List (List ℕ)) (item : Said) (cause : TextCause) → MaySay s words item → (IsLongLine words → ⊥) → IsLowest (Blocks s item) cause → IsLowest (WordsStand s words) cause
+pub blocked_lowest : (s : State) (words : List (List ℕ)) (item : Said) (cause : TextCause) → MaySay s words item → (IsLongLine s words → ⊥) → IsLowest (BarsLine s item) cause → IsLowest (WordsStand s words) cause
 blocked_lowest s words item cause may short least = record { stands = inr (inr (inr (item, may, least.stands))); lowest = blocked_below s words item cause may short least }
 
 -- what stands against what the words say stands against them
-pub said_refused : (s : State) (words : List (List ℕ)) (item : Said) (fault : LineFault) → MaySay s words item → (IsLongLine words → ⊥) → IsBadBy (LineBlocks s item) fault → IsBadBy (WordsStand s words) fault
+pub said_refused : (s : State) (words : List (List ℕ)) (item : Said) (fault : LineFault) → MaySay s words item → (IsLongLine s words → ⊥) → IsBadBy (LineBlocks s item) fault → IsBadBy (WordsStand s words) fault
 said_refused s words item Memory may short bad = bad
 said_refused s words item (Bad cause) may short bad = blocked_lowest s words item cause may short (lowest_by_cause s item cause bad)
 
-free_words : (s : State) (words : List (List ℕ)) (item : Said) → MaySay s words item → (IsLongLine words → ⊥) → IsFree (Blocks s item) → (other : TextCause) → WordsStand s words other → ⊥
-free_words s words item may short free other (inl h) = h.1.other (said_head s words item may h.1.first)
+free_words : (s : State) (words : List (List ℕ)) (item : Said) → MaySay s words item → (IsLongLine s words → ⊥) → IsFree (BarsLine s item) → (other : TextCause) → WordsStand s words other → ⊥
+free_words s words item may short free other (inl h) = (let (format, head) = said_head s words item may h.1.first in h.1.other format head)
 free_words s words item may short free other (inr (inl h)) = short h.1
 free_words s words item may short free other (inr (inr (inl h))) = h.1 item may
 free_words s words item may short free other (inr (inr (inr (y, y_may, blocks)))) =
-    free.free other (subst (λ y. Blocks s y other) (says_once s words y item y_may may) blocks)
+    free.free other (subst (λ y. BarsLine s y other) (says_once s words y item y_may may) blocks)
 
-pub words_free : (s : State) (words : List (List ℕ)) (item : Said) → MaySay s words item → (IsLongLine words → ⊥) → IsFree (Blocks s item) → IsFree (WordsStand s words)
+pub words_free : (s : State) (words : List (List ℕ)) (item : Said) → MaySay s words item → (IsLongLine s words → ⊥) → IsFree (BarsLine s item) → IsFree (WordsStand s words)
 words_free s words item may short free = record { free = free_words s words item may short free }
 
-pub taken_as : (s t : State) (words : List (List ℕ)) (item : Said) → MaySay s words item → (IsLongLine words → ⊥) → IsFree (Blocks s item) → t ≡ after s item → IsTakenAs s words t
+pub taken_as : (s t : State) (words : List (List ℕ)) (item : Said) → MaySay s words item → (IsLongLine s words → ⊥) → IsFree (BarsLine s item) → t ≡ after_line s item → IsTakenAs s words t
 taken_as s t words item may short free next = record { free = words_free s words item may short free; item = item; leaves = record { may = may; next = next } }
 
 -- from the words to the line
@@ -135,7 +136,3 @@ fault_refused s line ws us (Bad cause) ws_are us_are text not_passed bad = words
 -- a byte that is not allowed is named before all else
 pub text_refused : (s : State) (line : List ℕ) → (IsText line → ⊥) → IsLowest (Stands s line) NotText
 text_refused s line bad = record { stands = inl (refl, bad); lowest = λ other lt h. let le = some_number other in omega arith }
-
--- what would make a false test true does not hold
-pub untrue : {P : Type 0} → (P → false ≡ true) → P → ⊥
-untrue means p = let h = means p in cc

@@ -7,22 +7,27 @@ use Rattle.std.proofs.lemmas.List.Folds.{Any-from_list_any, list_any-from_Any}
 use Rattle.std.proofs.lemmas.Bool.{cases_lt, eq-eqb, eqb-true}
 use Rattle.std.specs.List.{list_any}
 use Rattle.pair_structure.specs.declared.limits.TheConstants.{MAX_ARCS, MAX_LOCALS}
-use Rattle.interconnection.specs.declared.limits.TheConstants.{MAX_KINDS, MAX_PROCESSES, MAX_ROLES}
+use Rattle.interconnection.specs.declared.limits.TheConstants.{MAX_KINDS, MAX_NEIGHBOURS, MAX_PROCESSES, MAX_ROLES}
 use Rattle.pair_structure.specs.declared.side.LocalArc.{LocalArc}
 use Rattle.pair_structure.specs.Parts.{role_at}
 use Rattle.pair_structure.specs.Role.{RoleParts, JoinsTwo, IsRole, HasArcFrom}
 use Rattle.ctl_form.specs.declared.pair_spec.PairSpec.{PairSpec}
+use Rattle.interconnection.specs.declared.parts.Edge.{Edge}
 use Rattle.interconnection.specs.declared.parts.Process.{Process}
+use Rattle.interconnection.specs.Graph.{degree_of}
 use Rattle.text_cause.specs.declared.cause.TextCause.TheVariants.{UnknownName, Twice, SelfArc, NoArc, TooMany, NotAStart}
 use Rattle.text_cause.specs.Cause.{IsFree}
 use Rattle.ctl_text.specs.inside.LineCause.{NameStands, StartStands, ArcStands, KindStands, ProcessStands, EdgeStands, RoleEndStands}
-use Rattle.ctl_text.specs.Value.{SpecParts, number_in, role_names, role_named, kind_names, kind_ends, process_names}
-use Rattle.ctl_text.specs.inside.Sound.{AreLocals, AreStarts, AreArcs, HasStart, IsSoundRole, IsSoundState}
+use Rattle.ctl_text.specs.Value.{Declared, number_in, role_names, role_named, kind_names, kind_ends, process_names}
+use Rattle.ctl_text.specs.declared.format.Format.{Format}
+use Rattle.ctl_text.specs.declared.format.Format.TheVariants.{First, Second}
+use Rattle.ctl_text.specs.Format.{most_neighbours, most_processes}
+use Rattle.ctl_text.specs.inside.Sound.{AreLocals, AreStarts, AreArcs, HasStart, HasItsRoles, IsSound, IsSoundRole, IsSoundState, open_kinds, open_roles}
 use Rattle.ctl_text.specs.Item.{head_line, role_line, end_line, process_line, edge_line, done_line}
-use Rattle.ctl_text.specs.State.{State, Group, in_role, in_kind, among_processes, before_head, among_roles, among_kinds, among_edges, after_done, MayStand, opened_kind, process_in, after}
+use Rattle.ctl_text.specs.State.{OpenParts, role_of, nothing, State, Group, in_role, in_kind, among_processes, before_head, among_roles, among_kinds, among_edges, after_done, MayStand, opened_kind, process_in, after_line}
 use Rattle.ctl_text.proofs.EdgeFits.{edge_named, edge_fits}
-use Rattle.ctl_text.proofs.GraphKept.{role_grown, kind_more, process_grown, edge_grown, degree_grown}
-use Rattle.ctl_text.proofs.Named.{contained, named_at, number_within}
+use Rattle.ctl_text.proofs.GraphKept.{none_declared, role_grown, kind_more, process_grown, edge_grown, degree_grown}
+use Rattle.ctl_text.proofs.Named.{Contains-not_not, named_at, number_within}
 use Rattle.ctl_text.proofs.StartNames.{begins_in}
 
 not_over : (n m : ℕ) → (m ≤ n → ⊥) → n < m
@@ -36,7 +41,7 @@ locals_more names name sound free = record {
 
 pub starts_more : (names : List (List ℕ)) (starts : List ℕ) (name : List ℕ) (start : ℕ) → AreStarts (length names) starts → IsFree (StartStands names starts name) → start ≡ number_in names name → AreStarts (length names) (starts ++ start ∷ [])
 starts_more names starts name start sound free is =
-    let there = contained names name (λ h. free.free UnknownName (inl (refl, h))) in record {
+    let there = Contains-not_not names name (λ h. free.free UnknownName (inl (refl, h))) in record {
       within = All-push (λ start. start < length names) starts start sound.within (rw is (number_within names name there));
       starts_differ = all_pairs_push (λ x y. x ≢ y) starts start sound.starts_differ (λ k d lt same. free.free Twice (inr (refl, (k, lt, get_or_default starts k (number_in names name) d lt ∙ same ∙ is))));
     }
@@ -52,7 +57,7 @@ arcs_wider : (n m : ℕ) (made : List LocalArc) → n ≤ m → AreArcs n made �
 arcs_wider n m made le h = record { few_arcs = h.few_arcs; joins = λ k d lt. arc_wider n m (get_or made k d) le (h.joins k d lt); ends_differ = h.ends_differ }
 
 -- an open role with one more local state
-pub local_sound : (r : RoleParts) (name : List ℕ) → IsSoundRole r → IsFree (NameStands r.locals MAX_LOCALS name) → IsSoundRole (record r { locals = r.locals ++ name ∷ [] })
+pub local_sound : (r : OpenParts) (name : List ℕ) → IsSoundRole r → IsFree (NameStands r.locals MAX_LOCALS name) → IsSoundRole (record r { locals = r.locals ++ name ∷ [] })
 local_sound r name sound free =
     let le : length r.locals ≤ length (r.locals ++ name ∷ []) = omega (arith, length-append r.locals (name ∷ [])) in record {
       locals = locals_more r.locals name sound.locals free;
@@ -63,8 +68,8 @@ local_sound r name sound free =
 pub arcs_more : (names : List (List ℕ)) (made : List LocalArc) (p q : List ℕ) (arc : LocalArc) → AreArcs (length names) made → IsFree (ArcStands names made p q)
     → arc.from ≡ number_in names p → arc.to ≡ number_in names q → AreArcs (length names) (made ++ arc ∷ [])
 arcs_more names made p q arc sound free from to =
-    let p_there = contained names p (λ h. free.free UnknownName (inl (refl, h))) in
-    let q_there = contained names q (λ h. free.free UnknownName (inr (inl (refl, h)))) in
+    let p_there = Contains-not_not names p (λ h. free.free UnknownName (inl (refl, h))) in
+    let q_there = Contains-not_not names q (λ h. free.free UnknownName (inr (inl (refl, h)))) in
     let p_is = named_at names p p_there in
     let q_is = named_at names q q_there in
     let from_in : arc.from < length names = rw from (number_within names p p_there) in
@@ -101,7 +106,7 @@ all_left names made free (suc n) le k k_lt =
       ]
     ]
 
-pub role_made : (r : RoleParts) → IsSoundRole r → 0 < length r.starts → IsFree (RoleEndStands r.locals r.arcs) → IsRole r
+pub role_made : (r : OpenParts) → IsSoundRole r → 0 < length r.starts → IsFree (RoleEndStands r.locals r.arcs) → IsRole (role_of r)
 role_made r sound begins free = record {
   some = (let first = sound.starts.within 0 0 begins in omega (arith, first));
   few_locals = sound.locals.few_locals;
@@ -122,31 +127,47 @@ role_room roles name free = let few = not_over (length (role_names roles)) MAX_R
 pub kind_room : (roles : List RoleParts) (kinds : List PairSpec) (name a b : List ℕ) → IsFree (KindStands roles kinds name a b) → length kinds + 1 ≤ MAX_KINDS
 kind_room roles kinds name a b free = let few = not_over (length (kind_names kinds)) MAX_KINDS (λ h. free.free (TooMany MAX_KINDS) (inr (inr (inr (refl, h))))) in omega (arith, length-map kinds (λ (k : PairSpec). k.name))
 
-pub process_room : (roles : List RoleParts) (processes : List Process) (name r : List ℕ) (start : Option (List ℕ)) → IsFree (ProcessStands roles processes name r start) → length processes + 1 ≤ MAX_PROCESSES
-process_room roles processes name r start free =
-    let few = not_over (length (process_names processes)) MAX_PROCESSES (λ h. free.free (TooMany MAX_PROCESSES) (inr (inr (inl (inr (refl, h)))))) in omega (arith, length-map processes (λ (p : Process). p.name))
+pub process_room : (most : ℕ) (roles : List RoleParts) (processes : List Process) (name r : List ℕ) (start : Option (List ℕ)) → IsFree (ProcessStands most roles processes name r start) → length processes + 1 ≤ most
+process_room most roles processes name r start free =
+    let few = not_over (length (process_names processes)) most (λ h. free.free (TooMany most) (inr (inr (inl (inr (refl, h)))))) in omega (arith, length-map processes (λ (p : Process). p.name))
 
-none_sound : (name : List ℕ) → IsSoundRole (record { name = name; locals = []; starts = []; arcs = [] })
-none_sound name = record {
+none_sound : (format : Format) (name : List ℕ) → IsSoundRole (record { format = format; name = name; locals = []; starts = []; sets = []; arcs = [] })
+none_sound format name = record {
   locals = record { few_locals = omega arith; names_differ = λ i j d lt within. absurd (omega arith) };
   starts = record { within = λ k d lt. absurd (omega arith); starts_differ = λ i j d lt within. absurd (omega arith) };
   arcs = record { few_arcs = omega arith; joins = λ k d lt. absurd (omega arith); ends_differ = λ i j d lt within. absurd (omega arith) };
 }
 
--- the head, or the last line
-pub head_sound : (s : State) → IsSoundState s → IsSoundState (after s head_line)
-head_sound s h = record {
-  few_roles = (let few = h.few_roles in omega arith);
-  starts = h.starts;
-  few_kinds = (let few = h.few_kinds in omega arith);
-  few_processes = h.few_processes;
-  group = tt;
-  kind_roles = tt;
-  network = h.network;
-  few_edges = h.few_edges;
+-- a format has no more than a network may have
+processes_few : (format : Format) → most_processes format ≤ MAX_PROCESSES
+processes_few First = omega arith
+processes_few Second = omega arith
+
+neighbours_few : (format : Format) → most_neighbours format ≤ MAX_NEIGHBOURS
+neighbours_few First = omega arith
+neighbours_few Second = omega arith
+
+pub few_beside : (format : Format) (edges : List Edge) → ((k : ℕ) → degree_of edges k ≤ most_neighbours format) → (k : ℕ) → degree_of edges k ≤ MAX_NEIGHBOURS
+few_beside format edges few k = let le = few k in let all = neighbours_few format in omega (arith, le, all)
+
+-- nothing is declared
+pub nothing_sound : (format : Format) (g : Group) → open_roles g ≡ 0 → open_kinds g ≡ 0 → IsSound g → HasItsRoles [] g → IsSoundState (record { parts = nothing format; group = g })
+nothing_sound format g no_role no_kind sound roles = record {
+  few_roles = omega (arith, no_role);
+  starts = λ k d lt. absurd (omega arith);
+  few_kinds = omega (arith, no_kind);
+  few_processes = omega arith;
+  group = sound;
+  kind_roles = roles;
+  network = none_declared;
+  few_edges = λ k. omega arith;
 }
 
-pub done_sound : (s : State) → IsSoundState s → IsSoundState (after s done_line)
+-- the head, or the last line
+pub head_sound : (s : State) (format : Format) → IsSoundState (after_line s (head_line format))
+head_sound s format = nothing_sound format among_roles refl refl tt tt
+
+pub done_sound : (s : State) → IsSoundState s → IsSoundState (after_line s done_line)
 done_sound s h = record {
   few_roles = (let few = h.few_roles in omega arith);
   starts = h.starts;
@@ -159,13 +180,13 @@ done_sound s h = record {
 }
 
 -- a role is opened
-pub role_opens : (s : State) (name : List ℕ) → IsSoundState s → IsFree (NameStands (role_names s.parts.roles) MAX_ROLES name) → IsSoundState (after s (role_line name))
+pub role_opens : (s : State) (name : List ℕ) → IsSoundState s → IsFree (NameStands (role_names s.parts.roles) MAX_ROLES name) → IsSoundState (after_line s (role_line name))
 role_opens s name sound free = record {
   few_roles = role_room s.parts.roles name free;
   starts = sound.starts;
   few_kinds = (let h = sound.few_kinds in omega arith);
   few_processes = sound.few_processes;
-  group = none_sound name;
+  group = none_sound s.parts.format name;
   kind_roles = tt;
   network = sound.network;
   few_edges = sound.few_edges;
@@ -182,21 +203,21 @@ kind_opens s name a b sound free = record {
   few_kinds = kind_room s.parts.roles s.parts.kinds name a b free;
   few_processes = sound.few_processes;
   group = tt;
-  kind_roles = (role_within s.parts.roles a (contained (role_names s.parts.roles) a (λ h. free.free UnknownName (inl (refl, h)))), role_within s.parts.roles b (contained (role_names s.parts.roles) b (λ h. free.free UnknownName (inr (inl (refl, h))))));
+  kind_roles = (role_within s.parts.roles a (Contains-not_not (role_names s.parts.roles) a (λ h. free.free UnknownName (inl (refl, h)))), role_within s.parts.roles b (Contains-not_not (role_names s.parts.roles) b (λ h. free.free UnknownName (inr (inl (refl, h))))));
   network = sound.network;
   few_edges = sound.few_edges;
 }
 
 -- the open role or kind is declared
-pub end_sound : (v : SpecParts) (g : Group) → IsSoundState (record { parts = v; group = g }) → MayStand g end_line → IsSoundState (after (record { parts = v; group = g }) end_line)
+pub end_sound : (v : Declared) (g : Group) → IsSoundState (record { parts = v; group = g }) → MayStand g end_line → IsSoundState (after_line (record { parts = v; group = g }) end_line)
 end_sound v (in_role r) sound may = record {
-  few_roles = (let h = sound.few_roles in omega (arith, length-append v.roles (r ∷ [])));
-  starts = All-push HasStart v.roles r sound.starts may;
+  few_roles = (let h = sound.few_roles in omega (arith, length-append v.roles (role_of r ∷ [])));
+  starts = All-push HasStart v.roles (role_of r) sound.starts may;
   few_kinds = sound.few_kinds;
   few_processes = sound.few_processes;
   group = tt;
   kind_roles = tt;
-  network = role_grown v.roles r (kind_ends v.kinds) v.processes v.edges sound.network sound.few_roles;
+  network = role_grown v.roles (role_of r) (kind_ends v.kinds) v.processes v.edges sound.network sound.few_roles;
   few_edges = sound.few_edges;
 }
 end_sound v (in_kind k) sound may = record {
@@ -217,11 +238,11 @@ end_sound v among_edges sound may = absurd may
 end_sound v after_done sound may = absurd may
 
 -- a process is declared
-pub process_sound : (s : State) (name r : List ℕ) (start : Option (List ℕ)) → IsSoundState s → IsFree (ProcessStands s.parts.roles s.parts.processes name r start) → IsSoundState (after s (process_line name r start))
+pub process_sound : (s : State) (name r : List ℕ) (start : Option (List ℕ)) → IsSoundState s → IsFree (ProcessStands (most_processes s.parts.format) s.parts.roles s.parts.processes name r start) → IsSoundState (after_line s (process_line name r start))
 process_sound s name r start sound free =
     let process = process_in s.parts.roles name r start in
-    let room = process_room s.parts.roles s.parts.processes name r start free in
-    let within = role_within s.parts.roles r (contained (role_names s.parts.roles) r (λ h. free.free UnknownName (inl (refl, h)))) in
+    let room = process_room (most_processes s.parts.format) s.parts.roles s.parts.processes name r start free in
+    let within = role_within s.parts.roles r (Contains-not_not (role_names s.parts.roles) r (λ h. free.free UnknownName (inl (refl, h)))) in
     let begins = begins_in (role_named s.parts.roles r) start (sound.starts process.role (role_at [] 0) within) (λ h. free.free UnknownName (inr (inl (refl, h)))) (λ h. free.free NotAStart (inr (inr (inr (refl, h))))) in record {
       few_roles = (let h = sound.few_roles in omega arith);
       starts = sound.starts;
@@ -229,20 +250,21 @@ process_sound s name r start sound free =
       few_processes = omega (arith, room, length-append s.parts.processes (process ∷ []));
       group = tt;
       kind_roles = tt;
-      network = process_grown s.parts.roles (kind_ends s.parts.kinds) s.parts.processes process s.parts.edges sound.network room within begins sound.few_edges;
+      network = process_grown s.parts.roles (kind_ends s.parts.kinds) s.parts.processes process s.parts.edges sound.network (let all = processes_few s.parts.format in omega (arith, room, all)) within begins (few_beside s.parts.format s.parts.edges sound.few_edges);
       few_edges = sound.few_edges;
     }
 
 -- an edge is declared
-pub edge_sound : (s : State) (p q kind : List ℕ) → IsSoundState s → IsFree (EdgeStands s.parts.processes s.parts.kinds s.parts.edges p q kind) → IsSoundState (after s (edge_line p q kind))
+pub edge_sound : (s : State) (p q kind : List ℕ) → IsSoundState s → IsFree (EdgeStands (most_neighbours s.parts.format) s.parts.processes s.parts.kinds s.parts.edges p q kind) → IsSoundState (after_line s (edge_line p q kind))
 edge_sound s p q kind sound free =
-    let fits = edge_fits s.parts.processes s.parts.kinds s.parts.edges p q kind free in record {
+    let most = most_neighbours s.parts.format in
+    let fits = edge_fits most s.parts.processes s.parts.kinds s.parts.edges p q kind free in record {
       few_roles = (let h = sound.few_roles in omega arith);
       starts = sound.starts;
       few_kinds = (let h = sound.few_kinds in omega arith);
       few_processes = sound.few_processes;
       group = tt;
       kind_roles = tt;
-      network = edge_grown s.parts.roles (kind_ends s.parts.kinds) s.parts.processes s.parts.edges (edge_named s.parts.processes s.parts.kinds p q kind) sound.network fits.within fits.differ fits.fresh fits.roles fits.room sound.few_edges;
-      few_edges = λ k. degree_grown s.parts.edges (edge_named s.parts.processes s.parts.kinds p q kind) k fits.room (sound.few_edges k);
+      network = edge_grown most s.parts.roles (kind_ends s.parts.kinds) s.parts.processes s.parts.edges (edge_named s.parts.processes s.parts.kinds p q kind) (neighbours_few s.parts.format) sound.network fits.within fits.differ fits.fresh fits.roles fits.room sound.few_edges;
+      few_edges = λ k. degree_grown most s.parts.edges (edge_named s.parts.processes s.parts.kinds p q kind) k fits.room (sound.few_edges k);
     }

@@ -15,11 +15,12 @@ use Rattle.ctl_text.specs.Required.{IsClosureOver}
 use Rattle.ctl_text.specs.SoundValue.{Differ, IsNamedRole, IsNamedKind, IsReadable}
 use Rattle.ctl_text.specs.SpecText.{line_for, require_text, kind_lines}
 use Rattle.ctl_text.specs.State.{State, Group, among_kinds, in_kind, MayStand}
-use Rattle.ctl_text.specs.Value.{role_names, kind_names, number_in}
+use Rattle.ctl_text.specs.Value.{role_names, kind_names, number_in, sets_at}
 use Rattle.ctl_text.proofs.LinesTaken.{Goes, goes_further, item_goes, clause_goes}
+use Rattle.formula_text.specs.Sets.{Atoms, plain}
 use Rattle.formula_text.proofs.RoleNames.{names_of_role}
 use Rattle.ctl_text.proofs.Named.{number_again}
-use Rattle.ctl_text.proofs.RolesAgain.{At, name_free, use_free, distinct_new}
+use Rattle.ctl_text.proofs.RolesAgain.{At, no_sets, none_at, name_free, use_free, distinct_new}
 
 -- edges may stand there, or nothing more
 abbrev pub LetsEdges : Group → Type 0
@@ -55,6 +56,10 @@ Opened n p q clauses = in_kind (record { name = n; role_a = p; role_b = q; claus
 pub role_named : (rs : List RoleParts) (k : ℕ) → All IsNamedRole rs → k < length rs → IsNamedRole (role_at rs k)
 role_named rs k named lt = named k (record { name = []; locals = []; starts = []; arcs = [] }) lt
 
+-- of a role without sets atoms may name the local states alone
+plain_at : (rs : List RoleParts) (k : ℕ) → ◌≡◌ {A = Atoms} (plain (role_at rs k).locals) (record { locals = (role_at rs k).locals; sets = sets_at (no_sets rs) k })
+plain_at rs k = ap (λ sets. record { locals = (role_at rs k).locals; sets = sets }) (sym (none_at rs k))
+
 clauses_go : (rs : List RoleParts) (ks : List PairSpec) (n : List ℕ) (p q : ℕ) (front back : List Form) → IsNamedRole (role_at rs p) → IsNamedRole (role_at rs q) → All (IsReadable (role_at rs p).locals (role_at rs q).locals) back
     → Goes (At rs ks [] [] (Opened n p q front)) (map (require_text (role_at rs p).locals (role_at rs q).locals) back) (At rs ks [] [] (Opened n p q (front ++ back)))
 clauses_go rs ks n p q front [] one two each = ap (λ (fs : List Form). At rs ks [] [] (Opened n p q fs)) (append-nil front)
@@ -63,7 +68,7 @@ clauses_go rs ks n p q front (f ∷ back) one two each =
     let same : (front ++ f ∷ []) ++ back ≡ front ++ f ∷ back = append_assoc front (f ∷ []) back in
     let more = subst (λ (fs : List Form). Goes (At rs ks [] [] (Opened n p q (front ++ f ∷ []))) (map (require_text a b) back) (At rs ks [] [] (Opened n p q fs))) same
     (clauses_go rs ks n p q (front ++ f ∷ []) back one two (λ k d lt. each (suc k) d (omega arith))) in
-    clause_goes (record { roles = rs; kinds = ks; processes = []; edges = [] }) (record { name = n; role_a = p; role_b = q; clauses = front }) a b f (At rs ks [] [] (Opened n p q (front ++ f ∷ back))) (map (require_text a b) back) refl refl
+    clause_goes (At rs ks [] [] among_kinds).parts (record { name = n; role_a = p; role_b = q; clauses = front }) a b f (At rs ks [] [] (Opened n p q (front ++ f ∷ back))) (map (require_text a b) back) (plain_at rs p) (plain_at rs q)
     (λ i lt. one.locals i [] lt) (λ i lt. two.locals i [] lt) (names_of_role a (λ i lt. one.locals i [] lt) one.role.names_differ) (names_of_role b (λ i lt. two.locals i [] lt) two.role.names_differ) (each 0 f (omega arith)) more
 
 kind_goes : (g : Group) (rs : List RoleParts) (ks : List PairSpec) (k : PairSpec) → LetsKinds g → All IsNamedRole rs → Differ (role_names rs) → IsNamedKind rs k → (Contains (kind_names ks) k.name → ⊥) → length (kind_names ks) < MAX_KINDS

@@ -12,6 +12,7 @@ pub mod Kept
 pub mod KindsAgain
 pub mod LinesAgain
 pub mod LinesTaken
+pub mod MemberLists
 pub mod NameBytes
 pub mod Named
 pub mod NormalsKept

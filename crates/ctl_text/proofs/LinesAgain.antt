@@ -1,5 +1,5 @@
 -- A canonical line is cut into its words again, and a canonical formula into its tokens.
-use Rattle.std.proofs.Common.{ℕ, zero, suc, ◌≡◌, ◌<◌, Bool, true, false, not, ◌&&◌, ◌==◌, nat_le, Option, Some, None, List, [], ◌∷◌, ◌++◌, codes, length, get_or, map, refl, sym, ap, ◌∙◌, arith, append_assoc}
+use Rattle.std.proofs.Common.{ℕ, zero, suc, ◌≡◌, ◌<◌, Bool, true, false, not, ◌&&◌, ◌==◌, nat_le, Option, Some, None, List, [], ◌∷◌, ◌++◌, codes, length, get_or, map, refl, sym, ap, ◌∙◌, arith, append_assoc, All}
 use Rattle.std.proofs.lemmas.Bool.Decides.{nat_tests}
 use Rattle.std.proofs.lemmas.List.Folds.{list_all-append}
 use Rattle.std.specs.Char.{is_ascii_alphabetic}
@@ -11,7 +11,8 @@ use Rattle.pair_structure.specs.declared.side.Side.TheVariants.{A, B}
 use Rattle.ctl_form.specs.Form.{Form, truth, falsity, at, neg, both, either, implies, next, always, sometime, until}
 use Rattle.formula_text.specs.FormulaText.{formula_text, path_letter, side_letters, until_letter}
 use Rattle.formula_text.specs.Canonical.{IsOver}
-use Rattle.ctl_text.specs.Item.{Said, head_line, role_line, local_line, start_line, arc_line, kind_line, require_line, end_line, process_line, edge_line, done_line, words_for, IsSpelled}
+use Rattle.ctl_text.specs.declared.format.Format.TheVariants.{First, Second}
+use Rattle.ctl_text.specs.Item.{Said, head_line, role_line, local_line, start_line, set_line, arc_line, kind_line, require_line, end_line, process_line, edge_line, done_line, words_for, IsSpelled}
 use Rattle.ctl_text.specs.Lines.{lines_of, is_text_byte, IsText, ArePassed, IsRequire}
 use Rattle.ctl_text.specs.Required.{tokens_in}
 use Rattle.ctl_text.specs.SpecText.{spaced, ended, line_for}
@@ -134,11 +135,17 @@ abbrev pub IsOther : Said → Type 0
 IsOther (require_line words form) = ⊥
 IsOther item = Unit {0}
 
+names_words : (names : List (List ℕ)) → All IsName names → AreWords names
+names_words [] each = tt
+names_words (n ∷ names) each = let first = each 0 n (omega arith) in (name_some n first, name_seen n first, names_words names (λ k d lt. each (suc k) d (omega arith)))
+
 item_words : (item : Said) → IsOther item → IsSpelled item → AreWords (words_for item)
-item_words head_line other is = (omega arith, refl, (omega arith, refl, tt))
+item_words (head_line First) other is = (omega arith, refl, (omega arith, refl, tt))
+item_words (head_line Second) other is = (omega arith, refl, (omega arith, refl, tt))
 item_words (role_line n) other is = (omega arith, refl, (name_some n is, name_seen n is, tt))
 item_words (local_line n) other is = (omega arith, refl, (name_some n is, name_seen n is, tt))
 item_words (start_line n) other is = (omega arith, refl, (name_some n is, name_seen n is, tt))
+item_words (set_line n members) other is = (omega arith, refl, (name_some n is.0, name_seen n is.0, names_words members is.2))
 item_words (arc_line p q false) other is = (omega arith, refl, (name_some p is.0, name_seen p is.0, (name_some q is.1, name_seen q is.1, tt)))
 item_words (arc_line p q true) other is = (omega arith, refl, (name_some p is.0, name_seen p is.0, (name_some q is.1, name_seen q is.1, (omega arith, refl, tt))))
 item_words (kind_line n a b) other is = (omega arith, refl, (name_some n is.0, name_seen n is.0, (name_some a is.1, name_seen a is.1, (name_some b is.2, name_seen b is.2, tt))))
@@ -156,10 +163,11 @@ pub item_again : (item : Said) → IsOther item → IsSpelled item → loose_wor
 item_again item other is = words_again (words_for item) (item_words item other is)
 
 pub item_not_passed : (item : Said) → ArePassed (words_for item) → ⊥
-item_not_passed head_line h = omega (arith, h)
+item_not_passed (head_line format) h = omega (arith, h)
 item_not_passed (role_line n) h = omega (arith, h)
 item_not_passed (local_line n) h = omega (arith, h)
 item_not_passed (start_line n) h = omega (arith, h)
+item_not_passed (set_line n members) h = omega (arith, h)
 item_not_passed (arc_line p q false) h = omega (arith, h)
 item_not_passed (arc_line p q true) h = omega (arith, h)
 item_not_passed (kind_line n a b) h = omega (arith, h)
@@ -171,10 +179,11 @@ item_not_passed (edge_line p q k) h = omega (arith, h)
 item_not_passed done_line h = omega (arith, h)
 
 pub item_no_clause : (item : Said) → IsOther item → IsRequire (words_for item) → ⊥
-item_no_clause head_line other h = cc
+item_no_clause (head_line format) other h = cc
 item_no_clause (role_line n) other h = cc
 item_no_clause (local_line n) other h = cc
 item_no_clause (start_line n) other h = cc
+item_no_clause (set_line n members) other h = cc
 item_no_clause (arc_line p q false) other h = cc
 item_no_clause (arc_line p q true) other h = cc
 item_no_clause (kind_line n a b) other h = cc

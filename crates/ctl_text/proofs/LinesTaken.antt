@@ -1,7 +1,8 @@
 -- Lines that are taken one after another.
 use Rattle.std.proofs.Common.{ℕ, ◌≡◌, List, [], ◌∷◌, ◌++◌, codes, refl, sym, subst}
 use Rattle.std.specs.List.{flat_map}
-use Rattle.pair_structure.specs.Parts.{Names, role_at}
+use Rattle.pair_structure.specs.Parts.{Names}
+use Rattle.formula_text.specs.Sets.{plain as plain_atoms}
 use Rattle.ctl_form.specs.declared.pair_spec.PairSpec.{PairSpec}
 use Rattle.ctl_form.specs.Form.{Form}
 use Rattle.formula_text.specs.Canonical.{AreNames}
@@ -15,11 +16,11 @@ use Rattle.strict_text.specs.Pieces.{loose_words_of}
 use Rattle.ctl_text.specs.Lines.{lines_of}
 use Rattle.ctl_text.specs.SoundValue.{IsReadable}
 use Rattle.ctl_text.specs.SpecText.{ended, line_for, require_text}
-use Rattle.ctl_text.specs.State.{State, in_kind, MayStand, after}
+use Rattle.ctl_text.specs.State.{State, in_kind, MayStand, after_line}
 use Rattle.text_cause.specs.Grammar.{StandsFor}
 use Rattle.ctl_text.specs.Text.{Gives, specifications}
 use Rattle.formula_text.specs.Token.{tokens_of}
-use Rattle.ctl_text.specs.Value.{SpecParts}
+use Rattle.ctl_text.specs.Value.{SpecParts, Declared, atoms_at}
 use Rattle.formula_text.proofs.Canonical.{canonical_is_formula}
 use Rattle.ctl_text.proofs.ByCause.{free_by_cause}
 use Rattle.ctl_text.proofs.Clauses.{clause_made}
@@ -42,29 +43,29 @@ goes_stand s t (x ∷ xs) v (plain, (m, (takes, goes))) gives =
     subst (λ lines. StandsFor specifications s lines v) (sym (ended_again x (flat_map ended xs) plain)) (m, takes, goes_stand m t xs v goes gives)
 
 -- the line of an item that may stand there and that nothing blocks
-pub item_goes : (s t : State) (x : Said) (lines : List (List ℕ)) → IsOther x → MayStand s.group x → IsSpelled x → IsFree (LineBlocks s x) → Goes (after s x) lines t → Goes s (line_for x ∷ lines) t
+pub item_goes : (s t : State) (x : Said) (lines : List (List ℕ)) → IsOther x → MayStand s.group x → IsSpelled x → IsFree (LineBlocks s x) → Goes (after_line s x) lines t → Goes s (line_for x ∷ lines) t
 item_goes s t x lines other may spelled free more =
     let again = sym (item_again x other spelled) in
     let plain = item_plain x other spelled in
     let says = may_say s (words_for x) x (item_no_clause x other) (record { words_are = refl; spelled = spelled }, may) in
-    let taken = taken_as s (after s x) (words_for x) x says (no_long (words_for x) (item_no_clause x other)) (free_by_cause s x free) refl in
-    (plain, (after s x, (taken_takes s (after s x) (line_for x) (words_for x) (words_for x) again again (plain_text (line_for x) plain) (item_not_passed x) taken, more)))
+    let taken = taken_as s (after_line s x) (words_for x) x says (no_long s (words_for x) (item_no_clause x other)) (free_by_cause s x free) refl in
+    (plain, (after_line s x, (taken_takes s (after_line s x) (line_for x) (words_for x) (words_for x) again again (plain_text (line_for x) plain) (item_not_passed x) taken, more)))
 
 -- the canonical line of a clause of the open kind
-pub clause_goes : (v : SpecParts) (k : PairSpec) (a b : Names) (f : Form) (t : State) (lines : List (List ℕ)) → a ≡ (role_at v.roles k.role_a).locals → b ≡ (role_at v.roles k.role_b).locals → AllNames a → AllNames b → AreNames a → AreNames b → IsReadable a b f
-    → Goes (after (record { parts = v; group = in_kind k }) (require_line (loose_words_of (formula_text a b f)) f)) lines t → Goes (record { parts = v; group = in_kind k }) (require_text a b f ∷ lines) t
+pub clause_goes : (v : Declared) (k : PairSpec) (a b : Names) (f : Form) (t : State) (lines : List (List ℕ)) → plain_atoms a ≡ atoms_at v k.role_a → plain_atoms b ≡ atoms_at v k.role_b → AllNames a → AllNames b → AreNames a → AreNames b → IsReadable a b f
+    → Goes (after_line (record { parts = v; group = in_kind k }) (require_line (loose_words_of (formula_text a b f)) f)) lines t → Goes (record { parts = v; group = in_kind k }) (require_text a b f ∷ lines) t
 clause_goes v k a b f t lines a_is b_is each_a each_b names_a names_b is more =
     let text = formula_text a b f in
     let s : State = record { parts = v; group = in_kind k } in
     let plain = plain_append (codes "require ") text refl (formula_plain a b f each_a each_b is.over) in
     let formula = canonical_is_formula a b f names_a names_b is.over in
-    let over : IsSpelledOver a b (tokens_of text) f = record { spells = formula.spelled; known = formula.known; short = is.short } in
-    let made = clause_made v k a b (loose_words_of text) f a_is b_is (subst (λ ts. IsSpelledOver a b ts f) (sym (tokens_again text)) over) in (
+    let over : IsSpelledOver (plain_atoms a) (plain_atoms b) (tokens_of text) f = record { spells = formula.spelled; known = formula.known; short = is.short } in
+    let made = clause_made v k (plain_atoms a) (plain_atoms b) (loose_words_of text) f a_is b_is (subst (λ ts. IsSpelledOver (plain_atoms a) (plain_atoms b) ts f) (sym (tokens_again text)) over) in (
       plain,
       (
-        after s (require_line (loose_words_of text) f),
+        after_line s (require_line (loose_words_of text) f),
         (
-          taken_takes s (after s (require_line (loose_words_of text) f)) (require_text a b f) (codes "require" ∷ loose_words_of text) (codes "require" ∷ loose_words_of text) (sym (clause_words text)) (sym (clause_words text)) (plain_text (require_text a b f) plain)
+          taken_takes s (after_line s (require_line (loose_words_of text) f)) (require_text a b f) (codes "require" ∷ loose_words_of text) (codes "require" ∷ loose_words_of text) (sym (clause_words text)) (sym (clause_words text)) (plain_text (require_text a b f) plain)
               (item_not_passed (require_line (loose_words_of text) f)) (record { free = made.free; item = require_line (loose_words_of text) f; leaves = record { may = made.may; next = refl } }),
           more,
         ),

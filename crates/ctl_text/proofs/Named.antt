@@ -43,8 +43,8 @@ found-Contains names name found e = elim (named names name found e) [
   | inr h ↦ (λ t. let f : is_some found ≡ false = h.1 in cc, λ there. absurd (h.0 there))
 ]
 
-pub contained : (names : List (List ℕ)) (name : List ℕ) → ((Contains names name → ⊥) → ⊥) → Contains names name
-contained names name not_not = elim (named names name (position (λ x. bytes_eq x name) names) refl) [ inl h ↦ h.0 | inr h ↦ absurd (not_not h.0) ]
+pub Contains-not_not : (names : List (List ℕ)) (name : List ℕ) → ((Contains names name → ⊥) → ⊥) → Contains names name
+Contains-not_not names name not_not = elim (named names name (position (λ x. bytes_eq x name) names) refl) [ inl h ↦ h.0 | inr h ↦ absurd (not_not h.0) ]
 
 pub named_at : (names : List (List ℕ)) (name : List ℕ) → Contains names name → get_or names (number_in names name) [] ≡ name
 named_at names name there = elim (named names name (position (λ x. bytes_eq x name) names) refl) [ inl h ↦ h.1 | inr h ↦ absurd (h.0 there) ]

@@ -10,5 +10,5 @@ none_as (Some x) P Q told h = h
 none_as None P Q told h = told h
 
 -- what would make a false test true does not hold
-pub untrue : {P : Type 0} → (P → false ≡ true) → P → ⊥
-untrue means p = let h = means p in cc
+pub untrue-false : {P : Type 0} → (P → false ≡ true) → P → ⊥
+untrue-false means p = let h = means p in cc

@@ -1,5 +1,5 @@
 -- The canonical lines of roles are taken again.
-use Rattle.std.proofs.Common.{ℕ, suc, ◌≡◌, ◌≢◌, ◌<◌, ◌≤◌, inl, inr, List, [], ◌∷◌, ◌++◌, map, length, sym, ap, ◌∙◌, arith, subst, refl, All, AllPairs, Contains, append_assoc, append-nil, length-append}
+use Rattle.std.proofs.Common.{ℕ, zero, suc, ◌≡◌, ◌≢◌, ◌<◌, ◌≤◌, inl, inr, List, [], ◌∷◌, ◌++◌, map, length, sym, ap, ◌∙◌, arith, subst, refl, All, AllPairs, Contains, append_assoc, append-nil, length-append}
 use Rattle.std.proofs.lemmas.List.{get_or_default, get_or_append_left, length-map, map-append}
 use Rattle.std.proofs.Math.Seq.{get_or-append_seam}
 use Rattle.std.proofs.lemmas.List.Elements.{Contains-get_or}
@@ -19,13 +19,29 @@ use Rattle.ctl_text.specs.inside.LineCause.{NameStands, StartStands, ArcStands, 
 use Rattle.ctl_text.specs.Item.{role_line, local_line, start_line, end_line}
 use Rattle.ctl_text.specs.SoundValue.{Differ, IsNamedRole}
 use Rattle.ctl_text.specs.SpecText.{line_for, local_text, start_text, arc_item, arc_text, role_lines}
+use Rattle.formula_text.specs.Sets.{SetParts}
+use Rattle.ctl_text.specs.declared.format.Format.TheVariants.{Second}
 use Rattle.ctl_text.specs.State.{State, Group, among_roles, in_role, arc_in}
-use Rattle.ctl_text.specs.Value.{role_names, number_in}
+use Rattle.ctl_text.specs.Value.{role_names, number_in, sets_at}
 use Rattle.ctl_text.proofs.LinesTaken.{Goes, goes_further, item_goes}
 use Rattle.ctl_text.proofs.Named.{number_again}
 
+-- of each role no sets
+abbrev pub no_sets : List RoleParts → List (List SetParts)
+no_sets [] = []
+no_sets (r ∷ rs) = [] ∷ no_sets rs
+
+sets_push : (rs : List RoleParts) (r : RoleParts) → no_sets (rs ++ r ∷ []) ≡ no_sets rs ++ [] ∷ []
+sets_push [] r = refl
+sets_push (x ∷ rs) r = ap (λ sets. [] ∷ sets) (sets_push rs r)
+
+pub none_at : (rs : List RoleParts) (k : ℕ) → sets_at (no_sets rs) k ≡ []
+none_at [] k = refl
+none_at (r ∷ rs) zero = refl
+none_at (r ∷ rs) (suc k) = none_at rs k
+
 abbrev pub At : List RoleParts → List PairSpec → List Process → List Edge → Group → State
-At rs ks ps es g = record { parts = record { roles = rs; kinds = ks; processes = ps; edges = es }; group = g }
+At rs ks ps es g = record { parts = record { format = Second; roles = rs; sets = no_sets rs; kinds = ks; processes = ps; edges = es }; group = g }
 
 pub name_free : (names : List (List ℕ)) (most : ℕ) (name : List ℕ) → (Contains names name → ⊥) → length names < most → (cause : TextCause) → NameStands names most name cause → ⊥
 name_free names most name fresh few cause (inl h) = fresh h.1
@@ -40,7 +56,7 @@ distinct_new front x back distinct (k, lt, is) =
     (get_or_append_left front (x ∷ back) x k lt ∙ is ∙ sym (get_or-append_seam front x back x))
 
 abbrev Opened : List ℕ → List (List ℕ) → List ℕ → List LocalArc → Group
-Opened n ls starts made = in_role (record { name = n; locals = ls; starts = starts; arcs = made })
+Opened n ls starts made = in_role (record { format = Second; name = n; locals = ls; starts = starts; sets = []; arcs = made })
 
 locals_go : (rs : List RoleParts) (n : List ℕ) (front back : List (List ℕ)) → Differ (front ++ back) → length (front ++ back) ≤ MAX_LOCALS → All IsName back
     → Goes (At rs [] [] [] (Opened n front [] [])) (map local_text back) (At rs [] [] [] (Opened n (front ++ back) [] []))
@@ -64,7 +80,7 @@ starts_go rs n ls front (start ∷ back) names distinct some within differ =
     let here = within 0 start (omega arith) in
     let more = subst (λ (starts : List ℕ). Goes (At rs [] [] [] (Opened n ls (front ++ start ∷ []) [])) (map (start_text ls) back) (At rs [] [] [] (Opened n ls starts []))) same
     (starts_go rs n ls (front ++ start ∷ []) back names distinct some (λ k d lt. within (suc k) d (omega arith)) (subst (AllPairs (λ (x y : ℕ). x ≢ y)) (sym same) differ)) in
-    item_goes (At rs [] [] [] (Opened n ls front [])) (At rs [] [] [] (Opened n ls (front ++ start ∷ back) [])) (start_line (name_at ls start)) (map (start_text ls) back) tt (some, refl) (names start [] here)
+    item_goes (At rs [] [] [] (Opened n ls front [])) (At rs [] [] [] (Opened n ls (front ++ start ∷ back) [])) (start_line (name_at ls start)) (map (start_text ls) back) tt (some, refl, refl) (names start [] here)
     (record { free = start_free ls front back start distinct here differ })
     (subst (λ (k : ℕ). Goes (At rs [] [] [] (Opened n ls (front ++ k ∷ []) [])) (map (start_text ls) back) (At rs [] [] [] (Opened n ls (front ++ start ∷ back) []))) (sym (number_again ls start distinct here)) more)
 
@@ -112,7 +128,7 @@ role_goes rs r is fresh few =
     let from_end : List (List ℕ) = line_for end_line ∷ [] in
     let from_arcs = map (arc_text r.locals) r.arcs ++ from_end in
     let from_starts = map (start_text r.locals) r.starts ++ from_arcs in
-    let last = item_goes (open_at r.locals r.starts r.arcs) done end_line [] tt is.role.begins tt (record { free = end_free r.locals r.arcs is.role.leaves }) refl in
+    let last = item_goes (open_at r.locals r.starts r.arcs) done end_line [] tt is.role.begins tt (record { free = end_free r.locals r.arcs is.role.leaves }) (ap (λ sets. record { parts = record { format = Second; roles = rs ++ r ∷ []; sets = sets; kinds = []; processes = []; edges = [] }; group = among_roles }) (sets_push rs r)) in
     let arcs = goes_further (open_at r.locals r.starts []) (open_at r.locals r.starts r.arcs) done (map (arc_text r.locals) r.arcs) from_end
     (arcs_go rs r.name r.locals r.starts [] r.arcs is.locals is.role.names_differ is.role.begins is.role.joins is.role.ends_differ is.role.few_arcs) last in
     let starts = goes_further (open_at r.locals [] []) (open_at r.locals r.starts []) done (map (start_text r.locals) r.starts) from_arcs

@@ -12,7 +12,7 @@ use Rattle.ctl_text.specs.Cause.{IsUnknownStart, IsNoStart}
 use Rattle.ctl_text.specs.SoundValue.{IsNamedRole}
 use Rattle.ctl_text.specs.SpecText.{start_name}
 use Rattle.ctl_text.specs.Value.{number_in, start_named}
-use Rattle.ctl_text.proofs.Named.{contained, number_again}
+use Rattle.ctl_text.proofs.Named.{Contains-not_not, number_again}
 
 decided : {P : Type 0} (t : Bool) → Decides t P → ((P → ⊥) → ⊥) → P
 decided true d not_not = d.0 refl
@@ -24,7 +24,7 @@ number_contained xs x not_not = decided _ (is_member-Decides Decides-eqb xs x) n
 -- where nothing stands against it, it is one of the role's starts
 pub begins_in : (r : RoleParts) (start : Option (List ℕ)) → 0 < length r.starts → (IsUnknownStart r start → ⊥) → (IsNoStart r start → ⊥) → Contains r.starts (start_named r start)
 begins_in r None some known begins = Contains-get_or r.starts 0 0 some
-begins_in r (Some name) some known begins = number_contained r.starts (number_in r.locals name) (λ other. begins (contained r.locals name known, other))
+begins_in r (Some name) some known begins = number_contained r.starts (number_in r.locals name) (λ other. begins (Contains-not_not r.locals name known, other))
 
 -- a name or none that stands for this start of the role
 pub record NamesStart (r : RoleParts) (start : ℕ) (name : Option (List ℕ)) : Type 0 where

@@ -8,13 +8,13 @@ use Rattle.text_cause.specs.declared.cause.TextCause.TheVariants.{NotText, BadHe
 use Rattle.text_cause.specs.Cause.{IsLowest, Row, Or, NumberRow}
 use Rattle.text_cause.specs.inside.Laws.{IsLawful}
 use Rattle.text_cause.proofs.Lowest.{From, OneEach, from_row, from_or, from_numbered, lowest_once, one_each_row, one_each_or, one_each_above, one_each_numbered, to_numbered}
-use Rattle.ctl_text.specs.Cause.{BeginsElsewhere, Blocks, Crowds, DeclaresAgain, GoesOver, HasLargeClosure, HasOtherRoles, IsFirstCrowded, IsFirstStuck, IsLongLine, IsLoop, IsNoHead, JoinsAgain, JoinsItself, Leaves, LeavesStuck, MaySay, SaysNothing, Stands, Takes, UsesUnknown, WordsStand}
-use Rattle.ctl_text.specs.Item.{Said, role_line, local_line, arc_line, kind_line, end_line, process_line, edge_line}
+use Rattle.ctl_text.specs.Cause.{BeginsElsewhere, BarsLine, Crowds, DeclaresAgain, GoesOver, HasLargeClosure, HasOtherRoles, IsFirstCrowded, IsFirstUnleft, IsLongLine, IsLoop, IsNoHead, JoinsAgain, JoinsItself, Leaves, LeavesStuck, MaySay, SaysNothing, Stands, Takes, UsesUnknown, WordsStand}
+use Rattle.ctl_text.specs.Item.{Said, role_line, local_line, set_line, arc_line, kind_line, end_line, process_line, edge_line}
 use Rattle.strict_text.specs.Pieces.{loose_words_of}
 use Rattle.ctl_text.specs.Lines.{IsText, ArePassed}
-use Rattle.ctl_text.specs.State.{State, Group, before_head, in_role, after_done, after}
+use Rattle.ctl_text.specs.State.{State, Group, before_head, in_role, after_done, after_line}
 use Rattle.ctl_text.specs.Text.{EndStands, specifications}
-use Rattle.ctl_text.specs.Value.{SpecParts}
+use Rattle.ctl_text.specs.Value.{Declared as Above}
 use Rattle.ctl_text.proofs.ItemLaws.{says_once}
 
 abbrev LeavesOne : State → List (List ℕ) → State → Type 0
@@ -24,13 +24,13 @@ leaves_once : (s : State) (words : List (List ℕ)) (t u : State) → LeavesOne 
 leaves_once s words t u (inl p) (inl q) = p.1 ∙ sym q.1
 leaves_once s words t u (inl p) (inr q) = absurd (q.0 p.0)
 leaves_once s words t u (inr p) (inl q) = absurd (p.0 q.0)
-leaves_once s words t u (inr (p, (x, xs))) (inr (q, (y, ys))) = xs.next ∙ ap (after s) (says_once s words x y xs.may ys.may) ∙ sym ys.next
+leaves_once s words t u (inr (p, (x, xs))) (inr (q, (y, ys))) = xs.next ∙ ap (after_line s) (says_once s words x y xs.may ys.may) ∙ sym ys.next
 
 pub takes_once : (s : State) (line : List ℕ) (t u : State) → Takes s line t → Takes s line u → t ≡ u
 takes_once s line t u a b = leaves_once s (loose_words_of line) t u a.leaves b.leaves
 
 -- which numbers a cause may have with it
-first_stuck_once : (names : List (List ℕ)) (made : List LocalArc) (k l : ℕ) → IsFirstStuck names made k → IsFirstStuck names made l → k ≡ l
+first_stuck_once : (names : List (List ℕ)) (made : List LocalArc) (k l : ℕ) → IsFirstUnleft names made k → IsFirstUnleft names made l → k ≡ l
 first_stuck_once names made k l a b = elim (cases_order k l) [
   | inl same ↦ same
   | inr apart ↦ elim apart [ inl lt ↦ absurd (a.stuck (b.before k lt)) | inr lt ↦ absurd (b.stuck (a.before l lt)) ]
@@ -40,19 +40,20 @@ stuck_once : (item : Said) (g : Group) (k l : ℕ) → LeavesStuck item g k → 
 stuck_once end_line (in_role r) k l a b = first_stuck_once r.locals r.arcs k l a b
 stuck_once item g k l a b = absurd a
 
-limit_once : (item : Said) (v : SpecParts) (g : Group) (k l : ℕ) → GoesOver item v g k → GoesOver item v g l → k ≡ l
+limit_once : (item : Said) (v : Above) (g : Group) (k l : ℕ) → GoesOver item v g k → GoesOver item v g l → k ≡ l
 limit_once (role_line name) v g k l a b = a.0 ∙ sym b.0
 limit_once (local_line n) v (in_role r) k l a b = a.0 ∙ sym b.0
+limit_once (set_line n members) v (in_role r) k l a b = a.0 ∙ sym b.0
 limit_once (arc_line p q free) v (in_role r) k l a b = a.0 ∙ sym b.0
 limit_once (kind_line name x y) v g k l a b = a.0 ∙ sym b.0
 limit_once (process_line name r start) v g k l a b = a.0 ∙ sym b.0
 limit_once item v g k l a b = absurd a
 
-first_crowded_once : (edges : List Edge) (p q k l : ℕ) → IsFirstCrowded edges p q k → IsFirstCrowded edges p q l → k ≡ l
-first_crowded_once edges p q k l a b = let le = a.first l b.crowded in let ge = b.first k a.crowded in omega (arith, le, ge)
+first_crowded_once : (most : ℕ) (edges : List Edge) (p q k l : ℕ) → IsFirstCrowded most edges p q k → IsFirstCrowded most edges p q l → k ≡ l
+first_crowded_once most edges p q k l a b = let le = a.first l b.crowded in let ge = b.first k a.crowded in omega (arith, le, ge)
 
-crowded_once : (item : Said) (v : SpecParts) (k l : ℕ) → Crowds item v k → Crowds item v l → k ≡ l
-crowded_once (edge_line p q kind) v k l a b = first_crowded_once _ _ _ k l a.1 b.1
+crowded_once : (item : Said) (v : Above) (k l : ℕ) → Crowds item v k → Crowds item v l → k ≡ l
+crowded_once (edge_line p q kind) v k l a b = first_crowded_once _ _ _ _ k l a.1 b.1
 crowded_once item v k l a b = absurd a
 
 -- of each number one cause stands at most against what a line says; none comes above an unknown name
@@ -117,7 +118,7 @@ module _ (s : State) (item : Said) where
   from_declared : (n : ℕ) → n ≤ 6 → From n Declared
   from_declared n le = from_or n (Row Twice (DeclaresAgain item s.parts s.group)) Itself (from_row n Twice (DeclaresAgain item s.parts s.group) le) (from_itself n (omega (arith, le)))
 
-  from_blocks : (n : ℕ) → n ≤ 5 → From n (Blocks s item)
+  from_blocks : (n : ℕ) → n ≤ 5 → From n (BarsLine s item)
   from_blocks n le = from_or n (Row UnknownName (UsesUnknown item s.parts s.group)) Declared (from_row n UnknownName (UsesUnknown item s.parts s.group) le) (from_declared n (omega (arith, le)))
 
   one_degree : OneEach Degree
@@ -141,32 +142,32 @@ module _ (s : State) (item : Said) where
       one_each_or 8 (NumberRow NoArc (LeavesStuck item s.group)) Over (to_numbered 8 NoArc (LeavesStuck item s.group) (λ k. omega arith)) (from_over 9 (omega arith))
       (one_each_numbered NoArc (LeavesStuck item s.group) (stuck_once item s.group)) one_over
 
-  one_blocks : OneEach (Blocks s item)
+  one_blocks : OneEach (BarsLine s item)
   one_blocks =
       one_each_above UnknownName (UsesUnknown item s.parts s.group) Declared (from_declared 6 (omega arith))
       (one_each_above Twice (DeclaresAgain item s.parts s.group) Itself (from_itself 7 (omega arith)) (one_each_above SelfArc (JoinsItself item s.group) Stuck (from_stuck 8 (omega arith)) one_stuck))
 
 module _ (s : State) (words : List (List ℕ)) where
   abbrev OfItem : TextCause → Type 0
-  OfItem cause = (item : Said) × MaySay s words item × Blocks s item cause
+  OfItem cause = (item : Said) × MaySay s words item × BarsLine s item cause
 
   abbrev OfLine : TextCause → Type 0
   OfLine = Or (Row BadLine (SaysNothing s words)) OfItem
 
   abbrev OfLong : TextCause → Type 0
-  OfLong = Or (Row Long (IsLongLine words)) OfLine
+  OfLong = Or (Row Long (IsLongLine s words)) OfLine
 
   from_item : From 5 OfItem
   from_item cause h = from_blocks s h.0 5 (omega arith) cause h.2
 
   one_item : OneEach OfItem
-  one_item c d same a b = one_blocks s a.0 c d same a.2 (subst (λ x. Blocks s x d) (says_once s words b.0 a.0 b.1 a.1) b.2)
+  one_item c d same a b = one_blocks s a.0 c d same a.2 (subst (λ x. BarsLine s x d) (says_once s words b.0 a.0 b.1 a.1) b.2)
 
   from_line : (n : ℕ) → n ≤ 4 → From n OfLine
   from_line n le = from_or n (Row BadLine (SaysNothing s words)) OfItem (from_row n BadLine (SaysNothing s words) le) (λ cause h. let five = from_item cause h in omega (arith, le, five))
 
   from_long : (n : ℕ) → n ≤ 3 → From n OfLong
-  from_long n le = from_or n (Row Long (IsLongLine words)) OfLine (from_row n Long (IsLongLine words) le) (from_line n (omega (arith, le)))
+  from_long n le = from_or n (Row Long (IsLongLine s words)) OfLine (from_row n Long (IsLongLine s words) le) (from_line n (omega (arith, le)))
 
   from_words : From 2 (WordsStand s words)
   from_words = from_or 2 (Row BadHead (IsNoHead s words)) OfLong (from_row 2 BadHead (IsNoHead s words) (omega arith)) (from_long 2 (omega arith))
@@ -174,7 +175,7 @@ module _ (s : State) (words : List (List ℕ)) where
   one_words : OneEach (WordsStand s words)
   one_words =
       one_each_above BadHead (IsNoHead s words) OfLong (from_long 3 (omega arith))
-      (one_each_above Long (IsLongLine words) OfLine (from_line 4 (omega arith)) (one_each_above BadLine (SaysNothing s words) OfItem from_item one_item))
+      (one_each_above Long (IsLongLine s words) OfLine (from_line 4 (omega arith)) (one_each_above BadLine (SaysNothing s words) OfItem from_item one_item))
 
 abbrev OfRead : State → List ℕ → TextCause → Type 0
 OfRead s line cause = (ArePassed (loose_words_of line) → ⊥) × WordsStand s (loose_words_of line) cause

@@ -1,5 +1,6 @@
 pub mod Answers
 pub mod Cause
+pub mod Format
 pub mod Item
 pub mod Lines
 pub mod Normals
@@ -13,6 +14,7 @@ pub mod inside
 pub use Rattle.formula_text.specs.Canonical
 pub use Rattle.formula_text.specs.FormulaText
 pub use Rattle.formula_text.specs.Long
+pub use Rattle.formula_text.specs.Sets
 pub use Rattle.formula_text.specs.Sign
 pub use Rattle.formula_text.specs.Token
 pub use Rattle.formula_text.specs.Tree

@@ -1,5 +1,5 @@
 -- What each specification keeps that is read of a text, so that its canonical text is read again.
-use Rattle.std.specs.Prelude.{ℕ, ◌≢◌, ◌<◌, ◌≤◌, List, length, All, AllPairs}
+use Rattle.std.specs.Prelude.{ℕ, ◌≢◌, ◌<◌, ◌≤◌, List, [], length, All, AllPairs}
 use Rattle.interconnection.specs.declared.limits.TheConstants.{MAX_NEIGHBOURS}
 use Rattle.pair_structure.specs.Parts.{Names, role_at}
 use Rattle.pair_structure.specs.Name.{IsName}
@@ -31,7 +31,7 @@ pub record IsNamedRole (r : RoleParts) : Type 0 where
 -- a clause over the local states of the two sides, whose canonical text is not too long to be read
 pub record IsReadable (a b : Names) (f : Form) : Type 0 where
   pub over : IsOver a b f
-  pub short : IsLong (tokens_of (formula_text a b f)) → ⊥
+  pub short : IsLong [] [] (tokens_of (formula_text a b f)) → ⊥
 
 pub record IsNamedKind (roles : List RoleParts) (k : PairSpec) : Type 0 where
   pub name : IsName k.name

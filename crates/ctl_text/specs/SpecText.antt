@@ -10,6 +10,7 @@ use Rattle.interconnection.specs.declared.parts.Process.{Process}
 use Rattle.interconnection.specs.declared.parts.Edge.{Edge}
 use Rattle.formula_text.specs.FormulaText.{formula_text}
 use Rattle.ctl_text.specs.Item.{Said, head_line, role_line, local_line, start_line, arc_line, kind_line, end_line, process_line, edge_line, done_line, words_for}
+use Rattle.ctl_text.specs.declared.format.Format.TheVariants.{Second}
 use Rattle.ctl_text.specs.Value.{SpecParts, kind_at, process_at}
 
 -- words with one space between two
@@ -69,9 +70,9 @@ edge_item processes kinds e = edge_line (process_at processes e.a).name (process
 abbrev pub edge_text : List Process → List PairSpec → Edge → List ℕ
 edge_text processes kinds e = line_for (edge_item processes kinds e)
 
--- the lines of a specification
+-- the lines of a specification, which are of format 2, without sets
 abbrev pub spec_lines : SpecParts → List (List ℕ)
-spec_lines v = line_for head_line ∷ (flat_map role_lines v.roles ++ (flat_map (kind_lines v.roles) v.kinds ++ (map (process_text v.roles) v.processes ++ (map (edge_text v.processes v.kinds) v.edges ++ (line_for done_line ∷ [])))))
+spec_lines v = line_for (head_line Second) ∷ (flat_map role_lines v.roles ++ (flat_map (kind_lines v.roles) v.kinds ++ (map (process_text v.roles) v.processes ++ (map (edge_text v.processes v.kinds) v.edges ++ (line_for done_line ∷ [])))))
 
 abbrev pub spec_text : SpecParts → List ℕ
 spec_text v = flat_map ended (spec_lines v)

@@ -4,7 +4,7 @@ use Rattle.text_cause.specs.declared.cause.TextCause.{TextCause}
 use Rattle.text_cause.specs.declared.cause.TextCause.TheVariants.{BadHead, BadLine}
 use Rattle.text_cause.specs.Grammar.{Grammar, IsText, IsRefused as IsRefusedBy}
 use Rattle.ctl_text.specs.Lines.{lines_of}
-use Rattle.ctl_text.specs.Value.{SpecParts}
+use Rattle.ctl_text.specs.Value.{SpecParts, spec_of}
 use Rattle.ctl_text.specs.State.{Group, before_head, after_done, State, first_state}
 use Rattle.ctl_text.specs.Cause.{Stands, Takes}
 
@@ -16,7 +16,7 @@ EndStands group cause = cause ≡ BadLine
 
 -- the parts that are whole at the end
 abbrev pub Gives : State → SpecParts → Type 0
-Gives s v = (s.group ≡ after_done) × (v ≡ s.parts)
+Gives s v = (s.group ≡ after_done) × (v ≡ spec_of s.parts)
 
 abbrev pub specifications : Grammar State (List ℕ) SpecParts
 specifications = record { lines = lines_of; Takes = Takes; Stands = Stands; Gives = Gives; EndStands = λ s. EndStands s.group }

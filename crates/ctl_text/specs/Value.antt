@@ -5,6 +5,8 @@ use Rattle.std.specs.Str.{bytes_eq}
 use Rattle.pair_structure.specs.Parts.{role_at}
 use Rattle.pair_structure.specs.Role.{RoleParts, first_start}
 use Rattle.ctl_form.specs.declared.pair_spec.PairSpec.{PairSpec}
+use Rattle.formula_text.specs.Sets.{SetParts, Atoms}
+use Rattle.ctl_text.specs.declared.format.Format.{Format}
 use Rattle.interconnection.specs.declared.parts.Process.{Process}
 use Rattle.interconnection.specs.declared.parts.Edge.{Edge}
 pub use Rattle.interconnection.specs.Graph.{AreJoined}
@@ -17,6 +19,30 @@ pub record SpecParts : Type 0 where
   pub kinds : List PairSpec
   pub processes : List Process
   pub edges : List Edge
+
+-- what is declared above a line: the format of the text, and the parts of a specification, with the sets of each role
+pub record Declared : Type 0 where
+  pub format : Format
+  pub roles : List RoleParts
+  pub sets : List (List SetParts)
+  pub kinds : List PairSpec
+  pub processes : List Process
+  pub edges : List Edge
+
+-- the specification that is declared: sets are names alone, and not of it
+abbrev pub spec_of : Declared → SpecParts
+spec_of v = record { roles = v.roles; kinds = v.kinds; processes = v.processes; edges = v.edges }
+
+-- the sets of a role by its number, and none past the end
+abbrev pub sets_at : List (List SetParts) → ℕ → List SetParts
+sets_at sets n = slice_index_or sets n []
+
+-- what atoms of a side with this role may name
+abbrev pub atoms_at : Declared → ℕ → Atoms
+atoms_at v n = record { locals = (role_at v.roles n).locals; sets = sets_at v.sets n }
+
+abbrev pub set_names : List SetParts → List (List ℕ)
+set_names = map (λ s. s.name)
 
 abbrev pub role_names : List RoleParts → List (List ℕ)
 role_names = map (λ r. r.name)

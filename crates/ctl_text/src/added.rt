@@ -3,7 +3,7 @@ ghost use Rattle.std.specs.Option.{option_copied};
 ghost use Rattle.pair_structure.specs.Name.{IsName};
 ghost use Rattle.pair_structure.specs.Parts.{role_at};
 ghost use Rattle.ctl_text.specs.Item.{process_line, edge_line};
-ghost use Rattle.ctl_text.specs.State.{after, process_in};
+ghost use Rattle.ctl_text.specs.State.{after_line, process_in};
 ghost use Rattle.ctl_text.specs.Value.{start_named};
 ghost use Rattle.ctl_text.specs.inside.View.{state_of};
 
@@ -23,7 +23,7 @@ pub(crate) fn process_added(
 ) -> Result<Reader, AllocError>
     requires few { length reader.pairs.roles ≤ MAX_ROLES }
     requires name { IsName name.now }
-    ensures { IfOk result (λ r. state_of r ≡ after (state_of reader) (process_line name.now role.now (option_copied start.entry))) }
+    ensures { IfOk result (λ r. state_of r ≡ after_line (state_of reader) (process_line name.now role.now (option_copied start.entry))) }
 {
     let process = process_of(alloc, reader.pairs.roles(), name, role, start)?;
     reader.processes = reader.processes.with(alloc, process)?;
@@ -78,7 +78,7 @@ pub(crate) fn edge_added(
 ) -> Result<Reader, AllocError>
     requires few_kinds { length reader.pairs.kinds ≤ MAX_KINDS }
     requires few_processes { length reader.processes ≤ MAX_PROCESSES }
-    ensures { IfOk result (λ r. state_of r ≡ after (state_of reader) (edge_line a.now b.now kind.now)) }
+    ensures { IfOk result (λ r. state_of r ≡ after_line (state_of reader) (edge_line a.now b.now kind.now)) }
 {
     let a = process_number(&reader.processes, a) as u32;
     let b = process_number(&reader.processes, b) as u32;

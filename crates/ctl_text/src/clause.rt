@@ -1,4 +1,4 @@
-ghost use Rattle.std.specs.Prelude.{◌≡◌, ◌↔◌, ◌≤◌, ◌∷◌, IsTrue, IfOk, IfErr, length, map, codes};
+ghost use Rattle.std.specs.Prelude.{◌≡◌, ◌↔◌, ◌≤◌, ◌∷◌, [], IsTrue, IfOk, IfErr, length, map, codes};
 ghost use Rattle.ctl_form.specs.Form.{form_of};
 ghost use Rattle.pair_structure.specs.Parts.{role_at};
 ghost use Rattle.text_cause.specs.Answers.{IsBadBy};
@@ -12,8 +12,9 @@ ghost use Rattle.ctl_text.specs.inside.View.{group_of, state_of};
 
 use crate::grown::with_form;
 use crate::place::{Place, Reader};
+use crate::sets::sets_at;
 use ctl_form::Formula;
-use formula_text::{FormulaFault, is_long, read_formula, tokens_of};
+use formula_text::{FormulaFault, LocalSet, is_long, read_formula, tokens_of};
 use pair_structure::{MAX_LOCALS, Memory, Name, Role};
 use std::alloc::{AllocError, Global};
 use text_cause::{LineFault, TextCause};
@@ -44,7 +45,9 @@ fn clause_of(alloc: Global, reader: &Reader, words: &[&[u8]]) -> Result<Formula,
         Place::InKind { role_a, role_b, .. } => {
             let a = locals_at(reader.pairs.roles(), *role_a);
             let b = locals_at(reader.pairs.roles(), *role_b);
-            match spelled_over(alloc, a, b, words) {
+            let a_sets = sets_at(&reader.sets, *role_a);
+            let b_sets = sets_at(&reader.sets, *role_b);
+            match spelled_over(alloc, a, a_sets, b, b_sets, words) {
                 Ok(formula) => Ok(formula),
                 Err(fault) => Err(fault),
             }
@@ -69,41 +72,45 @@ fn locals_at(roles: &[Role], n: u8) -> &[Name]
     }
 }
 
-/// The formula that the words spell over these local states.
+/// The formula that the words spell over these local states and sets.
 fn spelled_over(
     alloc: Global,
     a: &[Name],
+    a_sets: &[LocalSet],
     b: &[Name],
+    b_sets: &[LocalSet],
     words: &[&[u8]],
 ) -> Result<Formula, LineFault>
     requires few_a { length a.now ≤ MAX_LOCALS }
     requires few_b { length b.now ≤ MAX_LOCALS }
-    ensures spelled { IfOk result (λ f. IsSpelledOver a.now b.now (tokens_in (map (λ w. w.now) words.now)) (form_of f)) }
-    ensures refused { IfErr result (IsBadBy (SpellingStands a.now b.now (tokens_in (map (λ w. w.now) words.now)))) }
+    ensures spelled { IfOk result (λ f. IsSpelledOver (record { locals = a.now; sets = a_sets.now }) (record { locals = b.now; sets = b_sets.now }) (tokens_in (map (λ w. w.now) words.now)) (form_of f)) }
+    ensures refused { IfErr result (IsBadBy (SpellingStands (record { locals = a.now; sets = a_sets.now }) (record { locals = b.now; sets = b_sets.now }) (tokens_in (map (λ w. w.now) words.now)))) }
 {
     let tokens = tokens_of(alloc, words)?;
-    match formula_over(alloc, a, b, &tokens) {
+    match formula_over(alloc, a, a_sets, b, b_sets, &tokens) {
         Ok(formula) => Ok(formula),
         Err(fault) => Err(fault),
     }
 }
 
-/// The formula that these tokens spell over these local states.
+/// The formula that these tokens spell over these local states and sets.
 fn formula_over(
     alloc: Global,
     a: &[Name],
+    a_sets: &[LocalSet],
     b: &[Name],
+    b_sets: &[LocalSet],
     tokens: &[&[u8]],
 ) -> Result<Formula, LineFault>
     requires few_a { length a.now ≤ MAX_LOCALS }
     requires few_b { length b.now ≤ MAX_LOCALS }
-    ensures spelled { IfOk result (λ f. IsSpelledOver a.now b.now (map (λ t. t.now) tokens.now) (form_of f)) }
-    ensures refused { IfErr result (IsBadBy (SpellingStands a.now b.now (map (λ t. t.now) tokens.now))) }
+    ensures spelled { IfOk result (λ f. IsSpelledOver (record { locals = a.now; sets = a_sets.now }) (record { locals = b.now; sets = b_sets.now }) (map (λ t. t.now) tokens.now) (form_of f)) }
+    ensures refused { IfErr result (IsBadBy (SpellingStands (record { locals = a.now; sets = a_sets.now }) (record { locals = b.now; sets = b_sets.now }) (map (λ t. t.now) tokens.now))) }
 {
-    if is_long(tokens) {
+    if is_long(a_sets, b_sets, tokens) {
         return Err(LineFault::Bad(TextCause::Long));
     }
-    match read_formula(alloc, a, b, tokens) {
+    match read_formula(alloc, a, a_sets, b, b_sets, tokens) {
         Ok(formula) => Ok(formula),
         Err(FormulaFault::Outside) => Err(LineFault::Bad(TextCause::BadLine)),
         Err(FormulaFault::Unknown) => Err(LineFault::Bad(TextCause::UnknownName)),
@@ -111,12 +118,12 @@ fn formula_over(
     }
 }
 
-/// Whether a clause of these words is too long.
+/// Whether a clause of these words is too long where no kind is open.
 fn are_long(alloc: Global, words: &[&[u8]]) -> Result<bool, Memory>
-    ensures { IfOk result (λ long. IsTrue long ↔ IsLong (tokens_in (map (λ w. w.now) words.now))) }
+    ensures { IfOk result (λ long. IsTrue long ↔ IsLong [] [] (tokens_in (map (λ w. w.now) words.now))) }
 {
     let tokens = tokens_of(alloc, words)?;
-    Ok(is_long(&tokens))
+    Ok(is_long(&[], &[], &tokens))
 }
 
 /// The open kind with one more clause.

@@ -5,7 +5,7 @@ ghost use Rattle.text_cause.specs.Cause.{IsFree};
 ghost use Rattle.ctl_text.specs.Item.{end_line};
 ghost use Rattle.ctl_text.specs.Normals.{conjuncts_of};
 ghost use Rattle.ctl_text.specs.SoundValue.{IsOverRoles};
-ghost use Rattle.ctl_text.specs.State.{MayStand};
+ghost use Rattle.ctl_text.specs.State.{MayStand, role_of};
 ghost use Rattle.ctl_text.specs.inside.Judged.{IsSaidTaken};
 ghost use Rattle.ctl_text.specs.inside.LineCause.{LineBlocks, RoleEndStands, KindEndStands};
 ghost use Rattle.ctl_text.specs.inside.Sound.{IsSoundRole, IsSoundState};
@@ -15,9 +15,10 @@ use crate::open_role::OpenRole;
 use crate::pairs::Pairs;
 use crate::place::{Place, Reader};
 use crate::role_cause::role_end_cause;
+use crate::sets::Sets;
 use ctl_form::{Clauses, Normal, NormalFault, PairSpec, whole};
 use pair_structure::Role;
-use std::alloc::Global;
+use std::alloc::{AllocError, Global};
 use text_cause::{LineFault, TextCause};
 
 /// What stands below the end of the open role or kind: it is declared.
@@ -31,7 +32,9 @@ pub(crate) fn take_end(alloc: Global, mut reader: Reader) -> Result<Reader, Line
     match place {
         Place::InRole(role) => {
             reader.place = Place::AmongRoles;
-            reader.pairs = with_ended_role(reader.pairs, role)?;
+            let (pairs, sets) = with_ended_role(reader.pairs, role)?;
+            reader.pairs = pairs;
+            reader.sets = with_sets(reader.sets, sets)?;
             Ok(reader)
         }
         Place::InKind {
@@ -55,11 +58,12 @@ pub(crate) fn take_end(alloc: Global, mut reader: Reader) -> Result<Reader, Line
     }
 }
 
-/// With one role more.
-fn with_ended_role(pairs: Pairs, role: OpenRole) -> Result<Pairs, LineFault>
+/// With one role more; and the role's sets.
+fn with_ended_role(pairs: Pairs, role: OpenRole) -> Result<(Pairs, Sets), LineFault>
     requires sound { IsSoundRole (parts_of role) }
     requires begins { 0 < length role.starts.items }
-    ensures grown { IfOk result (λ made. made ≡ record { roles = pairs.roles ++ parts_of role ∷ []; kinds = pairs.kinds }) }
+    ensures grown { IfOk result (λ made. made.0 ≡ record { roles = pairs.roles ++ role_of (parts_of role) ∷ []; kinds = pairs.kinds }) }
+    ensures sets { IfOk result (λ made. made.1 ≡ role.sets) }
     ensures free { IfOk result (λ made. IsFree (RoleEndStands role.locals.items role.arcs.items)) }
     ensures refused { IfErr result (IsBadBy (RoleEndStands role.locals.items role.arcs.items)) }
 {
@@ -67,7 +71,9 @@ fn with_ended_role(pairs: Pairs, role: OpenRole) -> Result<Pairs, LineFault>
         name,
         locals,
         starts,
+        sets,
         arcs,
+        ..
     } = role;
     if let Some(cause) = role_end_cause(&locals, &arcs) {
         return Err(LineFault::Bad(cause));
@@ -75,10 +81,18 @@ fn with_ended_role(pairs: Pairs, role: OpenRole) -> Result<Pairs, LineFault>
     match Role::with_starts(name, locals, starts, arcs) {
         Ok(role) => {
             let pairs = pairs.with_role(role)?;
-            Ok(pairs)
+            Ok((pairs, sets))
         }
         Err(_) => unreachable!(),
     }
+}
+
+/// With the sets of one role more.
+fn with_sets(mut each: Vec<Sets>, sets: Sets) -> Result<Vec<Sets>, AllocError>
+    ensures { IfOk result (λ more. more.items ≡ each.items ++ sets ∷ []) }
+{
+    each.push(sets)?;
+    Ok(each)
 }
 
 /// With one kind more, whose normal form is made.

@@ -1,12 +1,15 @@
 ghost use Rattle.std.specs.Prelude.{◌≡◌, ◌↔◌, ◌<◌, ◌≤◌, ℕ, IsTrue, IfSome, IfNone, Contains, length};
 ghost use Rattle.ctl_text.specs.Value.{role_names, kind_names, process_names, number_in, process_at, kind_at};
 ghost use Rattle.text_cause.specs.Cause.{IsLowest, IsFree};
+ghost use Rattle.ctl_text.specs.Format.{most_neighbours};
 ghost use Rattle.ctl_text.specs.Cause.{IsCrowded, IsFirstCrowded, AreOfKind};
-ghost use Rattle.ctl_text.specs.inside.LineCause.{NameStands, KindStands, ProcessStands, JoinStands, EdgeStands};
+ghost use Rattle.ctl_text.specs.inside.LineCause.{NameStands, KindStands, JoinStands, EdgeStands};
 
+use crate::format::most_neighbours;
 use crate::names::{has_kind, has_process, has_role, kind_number, process_number};
+use crate::place::Reader;
 use ctl_form::PairSpec;
-use interconnection::{Edges, MAX_KINDS, MAX_PROCESSES, Process, Processes};
+use interconnection::{Edges, MAX_KINDS, MAX_PROCESSES, Process};
 use pair_structure::Role;
 use text_cause::TextCause;
 
@@ -46,18 +49,13 @@ fn kind_name_cause(kinds: &[PairSpec], name: &[u8]) -> Option<TextCause>
 }
 
 /// What stands against an edge of this kind between these processes.
-pub(crate) fn edge_cause(
-    processes: &Processes,
-    kinds: &[PairSpec],
-    edges: &Edges,
-    p: &[u8],
-    q: &[u8],
-    kind: &[u8],
-) -> Option<TextCause>
-    requires { length processes.now ≤ MAX_PROCESSES }
-    ensures some { IfSome result (IsLowest (EdgeStands processes.now kinds.now edges.now p.now q.now kind.now)) }
-    ensures none { IfNone result (IsFree (EdgeStands processes.now kinds.now edges.now p.now q.now kind.now)) }
+pub(crate) fn edge_cause(reader: &Reader, p: &[u8], q: &[u8], kind: &[u8]) -> Option<TextCause>
+    requires { length reader.now.processes ≤ MAX_PROCESSES }
+    ensures some { IfSome result (IsLowest (EdgeStands (most_neighbours reader.now.format) reader.now.processes reader.now.pairs.kinds reader.now.edges p.now q.now kind.now)) }
+    ensures none { IfNone result (IsFree (EdgeStands (most_neighbours reader.now.format) reader.now.processes reader.now.pairs.kinds reader.now.edges p.now q.now kind.now)) }
 {
+    let processes = &reader.processes;
+    let kinds = reader.pairs.kinds();
     if !has_process(processes, p) {
         return Some(TextCause::UnknownName);
     }
@@ -70,56 +68,55 @@ pub(crate) fn edge_cause(
     let p = process_number(processes, p) as u32;
     let q = process_number(processes, q) as u32;
     let kind = kind_number(kinds, kind);
-    join_cause(processes.as_slice(), kinds, edges, p, q, kind)
+    join_cause(reader, p, q, kind)
 }
 
-fn join_cause(
-    processes: &[Process],
-    kinds: &[PairSpec],
-    edges: &Edges,
-    p: u32,
-    q: u32,
-    kind: usize,
-) -> Option<TextCause>
-    ensures some { IfSome result (IsLowest (JoinStands processes.now kinds.now edges.now p q kind)) }
-    ensures none { IfNone result (IsFree (JoinStands processes.now kinds.now edges.now p q kind)) }
+fn join_cause(reader: &Reader, p: u32, q: u32, kind: usize) -> Option<TextCause>
+    ensures some { IfSome result (IsLowest (JoinStands (most_neighbours reader.now.format) reader.now.processes reader.now.pairs.kinds reader.now.edges p q kind)) }
+    ensures none { IfNone result (IsFree (JoinStands (most_neighbours reader.now.format) reader.now.processes reader.now.pairs.kinds reader.now.edges p q kind)) }
 {
     if p == q {
         return Some(TextCause::SelfEdge);
     }
-    if edges.are_joined(p, q) {
+    if reader.edges.are_joined(p, q) {
         return Some(TextCause::EdgeTwice);
     }
-    if let Some(process) = crowded(edges, p, q) {
+    if let Some(process) = crowded(&reader.edges, most_neighbours(reader.format), p, q) {
         return Some(TextCause::DegreeOver { process });
     }
-    if !are_of_kind(processes, kinds, p, q, kind) {
+    if !are_of_kind(
+        reader.processes.as_slice(),
+        reader.pairs.kinds(),
+        p,
+        q,
+        kind,
+    ) {
         return Some(TextCause::RoleMismatch);
     }
     None
 }
 
-/// Of the two processes the lower one that has `MAX_NEIGHBOURS` edges.
-fn crowded(edges: &Edges, p: u32, q: u32) -> Option<u32>
-    ensures some { IfSome result (IsFirstCrowded edges.now p q) }
-    ensures none { IfNone result ((k : ℕ) → IsCrowded edges.now p q k → ⊥) }
+/// Of the two processes the lower one that has so many edges.
+fn crowded(edges: &Edges, most: usize, p: u32, q: u32) -> Option<u32>
+    ensures some { IfSome result (IsFirstCrowded most edges.now p q) }
+    ensures none { IfNone result ((k : ℕ) → IsCrowded most edges.now p q k → ⊥) }
 {
     if p <= q {
-        first_crowded(edges, p, q)
+        first_crowded(edges, most, p, q)
     } else {
-        first_crowded(edges, q, p)
+        first_crowded(edges, most, q, p)
     }
 }
 
-fn first_crowded(edges: &Edges, low: u32, high: u32) -> Option<u32>
+fn first_crowded(edges: &Edges, most: usize, low: u32, high: u32) -> Option<u32>
     requires { low ≤ high }
-    ensures some { IfSome result (IsFirstCrowded edges.now low high) }
-    ensures none { IfNone result ((k : ℕ) → IsCrowded edges.now low high k → ⊥) }
+    ensures some { IfSome result (IsFirstCrowded most edges.now low high) }
+    ensures none { IfNone result ((k : ℕ) → IsCrowded most edges.now low high k → ⊥) }
 {
-    if edges.is_full(low) {
+    if edges.is_full(low, most) {
         return Some(low);
     }
-    if edges.is_full(high) {
+    if edges.is_full(high, most) {
         return Some(high);
     }
     None

@@ -1,10 +1,10 @@
-ghost use Rattle.std.specs.Prelude.{◌≡◌, ◌≤◌, IfOk, IfErr, length};
+ghost use Rattle.std.specs.Prelude.{◌≡◌, ◌≤◌, All, IfOk, IfErr, length, map};
 ghost use Rattle.pair_structure.specs.Name.{IsName};
 ghost use Rattle.ctl_form.specs.Form.{form_of};
-ghost use Rattle.ctl_text.specs.State.{with_local, with_start, with_arc, with_form, opened_kind};
+ghost use Rattle.ctl_text.specs.State.{with_local, with_start, with_set, with_arc, with_form, opened_kind};
 ghost use Rattle.text_cause.specs.Answers.{IsBadBy};
 ghost use Rattle.text_cause.specs.Cause.{IsFree};
-ghost use Rattle.ctl_text.specs.inside.LineCause.{LocalBlocks, StartBlocks, ArcBlocks};
+ghost use Rattle.ctl_text.specs.inside.LineCause.{LocalBlocks, StartBlocks, SetBlocks, ArcBlocks};
 ghost use Rattle.ctl_text.specs.inside.Sound.{IsSound};
 ghost use Rattle.ctl_text.specs.inside.View.{group_of};
 
@@ -45,6 +45,30 @@ pub(crate) fn with_start(place: Place, name: &[u8]) -> Result<Place, LineFault>
     match place {
         Place::InRole(role) => {
             let role = role.with_start(name)?;
+            Ok(Place::InRole(role))
+        }
+        other => Ok(other),
+    }
+}
+
+/// An open role with one more set.
+pub(crate) fn with_set(
+    alloc: Global,
+    place: Place,
+    name: &[u8],
+    members: &[&[u8]],
+) -> Result<Place, LineFault>
+    requires sound { IsSound (group_of place) }
+    requires name { IsName name.now }
+    requires members { All IsName (map (λ m. m.now) members.now) }
+    ensures place { IfOk result (λ p. group_of p ≡ with_set (group_of place) name.now (map (λ m. m.now) members.now)) }
+    ensures free { IfOk result (λ p. IsFree (SetBlocks (group_of place) name.now (map (λ m. m.now) members.now))) }
+    ensures sound { IfOk result (λ p. IsSound (group_of p)) }
+    ensures refused { IfErr result (IsBadBy (SetBlocks (group_of place) name.now (map (λ m. m.now) members.now))) }
+{
+    match place {
+        Place::InRole(role) => {
+            let role = role.with_set(alloc, name, members)?;
             Ok(Place::InRole(role))
         }
         other => Ok(other),

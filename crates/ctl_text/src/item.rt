@@ -1,20 +1,26 @@
-ghost use Rattle.std.specs.Prelude.{◌≡◌, ◌↔◌, IsTrue, IfSome, IfNone, map, ◌∷◌, [], Some};
+ghost use Rattle.std.specs.Prelude.{◌≡◌, ◌↔◌, ◌<◌, All, IsTrue, IfSome, IfNone, codes, length, map, ◌∷◌, [], Some};
+ghost use Rattle.std.specs.Str.{bytes_eq};
 ghost use Rattle.std.specs.Option.{option_copied, option_map};
 ghost use Rattle.pair_structure.specs.Name.{IsName};
 ghost use Rattle.ctl_text.specs.Item.{Said, IsSpelled, Says};
-ghost use Rattle.ctl_text.specs.inside.ItemReading.{item_at, one_at, two_at, three_at, four_at};
+ghost use Rattle.ctl_text.specs.inside.ItemReading.{item_at, few_at, one_at, two_at, three_at, four_at};
 ghost use Rattle.ctl_text.specs.Lines.{IsRequire};
 ghost use Rattle.ctl_text.specs.inside.View.{said};
 
+use crate::format::Format;
 use pair_structure::is_name;
 
 /// What a line says that is not passed over and requires no clause.
 #[derive(Clone, Copy, Debug)]
 pub(crate) enum Item<'a> {
-    Head,
+    Head(Format),
     Role(&'a [u8]),
     Local(&'a [u8]),
     Start(&'a [u8]),
+    Set {
+        name: &'a [u8],
+        members: &'a [&'a [u8]],
+    },
     Arc {
         from: &'a [u8],
         to: &'a [u8],
@@ -40,7 +46,7 @@ pub(crate) enum Item<'a> {
 }
 
 /// What the words say, if they are a line; they require no clause.
-pub(crate) fn said_by<'a>(words: &[&'a [u8]]) -> Option<Item<'a>>
+pub(crate) fn said_by<'a>(words: &'a [&'a [u8]]) -> Option<Item<'a>>
     requires { IsRequire (map (λ w. w.now) words.now) → ⊥ }
     ensures some { IfSome result (λ item. Says (map (λ w. w.now) words.now) (said item)) }
     ensures none { IfNone result ((item : Said) → Says (map (λ w. w.now) words.now) item → ⊥) }
@@ -52,8 +58,30 @@ pub(crate) fn said_by<'a>(words: &[&'a [u8]]) -> Option<Item<'a>>
 }
 
 /// What the words say, whatever the spelling of their names.
-fn item_of<'a>(words: &[&'a [u8]]) -> Option<Item<'a>>
+fn item_of<'a>(words: &'a [&'a [u8]]) -> Option<Item<'a>>
     ensures { option_map said result ≡ item_at (map (λ w. w.now) words.now) }
+{
+    match words {
+        [word, name, members @ ..] => {
+            if is_set(word) {
+                Some(Item::Set { name, members })
+            } else {
+                few(words)
+            }
+        }
+        _ => few(words),
+    }
+}
+
+fn is_set(word: &[u8]) -> bool
+    ensures { result ≡ bytes_eq word.now (codes "set") }
+{
+    word == b"set".as_slice()
+}
+
+/// What at most four words say that are no set.
+fn few<'a>(words: &[&'a [u8]]) -> Option<Item<'a>>
+    ensures { option_map said result ≡ few_at (map (λ w. w.now) words.now) }
 {
     match words {
         [word] => one(word),
@@ -80,7 +108,10 @@ fn two<'a>(word: &[u8], a: &'a [u8]) -> Option<Item<'a>>
     ensures { option_map said result ≡ two_at word.now a.now }
 {
     if word == b"pairs".as_slice() && a == b"1".as_slice() {
-        return Some(Item::Head);
+        return Some(Item::Head(Format::First));
+    }
+    if word == b"pairs".as_slice() && a == b"2".as_slice() {
+        return Some(Item::Head(Format::Second));
     }
     if word == b"role".as_slice() {
         return Some(Item::Role(a));
@@ -151,8 +182,11 @@ fn is_spelled(item: Item<'_>) -> bool
     ensures { IsTrue result ↔ IsSpelled (said item.entry) }
 {
     match item {
-        Item::Head | Item::End | Item::Done => true,
+        Item::Head(_) | Item::End | Item::Done => true,
         Item::Role(name) | Item::Local(name) | Item::Start(name) => is_name(name),
+        Item::Set { name, members } => {
+            is_name(name) && !members.is_empty() && are_names(members)
+        }
         Item::Arc { from, to, .. } => is_name(from) && is_name(to),
         Item::Kind { name, a, b } => is_name(name) && is_name(a) && is_name(b),
         Item::Process { name, role, start } => {
@@ -160,6 +194,19 @@ fn is_spelled(item: Item<'_>) -> bool
         }
         Item::Edge { a, b, kind } => is_name(a) && is_name(b) && is_name(kind),
     }
+}
+
+/// Whether each of these is spelled as a name.
+fn are_names(words: &[&[u8]]) -> bool
+    ensures { IsTrue result ↔ All IsName (map (λ w. w.now) words.now) }
+{
+    all_names(words)
+}
+
+fn all_names(words: &[&[u8]]) -> bool
+    ensures { IsTrue result ↔ All (λ w. IsName w.now) words.now }
+{
+    words.iter().all(|word| is_name(word))
 }
 
 /// Whether the name is spelled as one, if there is one.

@@ -4,6 +4,7 @@
 mod added;
 mod clause;
 mod ended;
+mod format;
 mod graph_cause;
 mod grown;
 mod item;
@@ -17,13 +18,16 @@ mod process_cause;
 mod read;
 mod role_cause;
 mod said;
+mod set_cause;
+mod sets;
 mod spec;
 mod spec_laws;
 mod spec_writer;
 mod take;
 
+pub use format::{FIRST_NEIGHBOURS, FIRST_PROCESSES, Format, MAX_SETS};
 pub use formula_text::{
-    FormulaFault, Leaf, Mark, Prefix, Sign, canonical_is_formula, is_spelled_once,
+    FormulaFault, Leaf, LocalSet, Mark, Prefix, Sign, canonical_is_formula, is_spelled_once,
 };
 pub use laws::never_both;
 pub use read::read_spec;

@@ -19,7 +19,7 @@ pub(crate) struct Pairs {
 
 impl Model for Pairs {
     ghost use Rattle.std.specs.Coded.{codes};
-    ghost use Rattle.ctl_form.specs.Code.{form_code};
+    ghost use Rattle.ctl_form.specs.inside.CodeBack.{form_code};
     ghost use Rattle.ctl_text.specs.inside.Pairs.{PairsParts, ArePairs};
 
     ghost Value = { PairsParts };

@@ -1,5 +1,6 @@
-ghost use Rattle.std.specs.Prelude.{◌↔◌, IsTrue, IfSome, IfNone, Some};
+ghost use Rattle.std.specs.Prelude.{◌↔◌, ◌≤◌, IsTrue, IfSome, IfNone, Some};
 ghost use Rattle.std.specs.Option.{option_copied};
+ghost use Rattle.interconnection.specs.declared.limits.TheConstants.{MAX_PROCESSES};
 ghost use Rattle.text_cause.specs.Cause.{IsLowest, IsFree};
 ghost use Rattle.ctl_text.specs.Cause.{IsUnknownStart, IsNoStart};
 ghost use Rattle.ctl_text.specs.Value.{process_names};
@@ -7,40 +8,44 @@ ghost use Rattle.ctl_text.specs.inside.LineCause.{NameStands, BeginStands, Proce
 
 use crate::names::{has_local, has_process, local_number, role_named};
 use crate::role_cause::has_start;
-use interconnection::{MAX_PROCESSES, Processes};
+use interconnection::Processes;
 use pair_structure::Role;
 use text_cause::TextCause;
 
-/// What stands against a process of this name and role that is to begin there.
+/// What stands against a process of this name and role that is to begin there, where there may be so many.
 pub(crate) fn process_cause(
+    most: usize,
     roles: &[Role],
     processes: &Processes,
     name: &[u8],
     role: &[u8],
     start: Option<&[u8]>,
 ) -> Option<TextCause>
-    ensures some { IfSome result (IsLowest (ProcessStands roles.now processes.now name.now role.now (option_copied start.entry))) }
-    ensures none { IfNone result (IsFree (ProcessStands roles.now processes.now name.now role.now (option_copied start.entry))) }
+    requires { most ≤ MAX_PROCESSES }
+    ensures some { IfSome result (IsLowest (ProcessStands most roles.now processes.now name.now role.now (option_copied start.entry))) }
+    ensures none { IfNone result (IsFree (ProcessStands most roles.now processes.now name.now role.now (option_copied start.entry))) }
 {
     match role_named(roles, role) {
-        Some(role) => begin_cause(role, processes, name, start),
+        Some(role) => begin_cause(most, role, processes, name, start),
         None => Some(TextCause::UnknownName),
     }
 }
 
 fn begin_cause(
+    most: usize,
     role: &Role,
     processes: &Processes,
     name: &[u8],
     start: Option<&[u8]>,
 ) -> Option<TextCause>
-    ensures some { IfSome result (IsLowest (BeginStands role.now processes.now name.now (option_copied start.entry))) }
-    ensures none { IfNone result (IsFree (BeginStands role.now processes.now name.now (option_copied start.entry))) }
+    requires { most ≤ MAX_PROCESSES }
+    ensures some { IfSome result (IsLowest (BeginStands most role.now processes.now name.now (option_copied start.entry))) }
+    ensures none { IfNone result (IsFree (BeginStands most role.now processes.now name.now (option_copied start.entry))) }
 {
     if is_unknown_start(role, start) {
         return Some(TextCause::UnknownName);
     }
-    if let Some(cause) = process_name_cause(processes, name) {
+    if let Some(cause) = process_name_cause(most, processes, name) {
         return Some(cause);
     }
     if is_no_start(role, start) {
@@ -49,17 +54,16 @@ fn begin_cause(
     None
 }
 
-fn process_name_cause(processes: &Processes, name: &[u8]) -> Option<TextCause>
-    ensures some { IfSome result (IsLowest (NameStands (process_names processes.now) MAX_PROCESSES name.now)) }
-    ensures none { IfNone result (IsFree (NameStands (process_names processes.now) MAX_PROCESSES name.now)) }
+fn process_name_cause(most: usize, processes: &Processes, name: &[u8]) -> Option<TextCause>
+    requires { most ≤ MAX_PROCESSES }
+    ensures some { IfSome result (IsLowest (NameStands (process_names processes.now) most name.now)) }
+    ensures none { IfNone result (IsFree (NameStands (process_names processes.now) most name.now)) }
 {
     if has_process(processes, name) {
         return Some(TextCause::Twice);
     }
-    if processes.as_slice().len() >= MAX_PROCESSES {
-        return Some(TextCause::TooMany {
-            limit: MAX_PROCESSES as u32,
-        });
+    if processes.as_slice().len() >= most {
+        return Some(TextCause::TooMany { limit: most as u32 });
     }
     None
 }

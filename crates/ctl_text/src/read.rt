@@ -12,12 +12,13 @@ ghost use Rattle.text_cause.specs.Answers.{IsFaultAt};
 ghost use Rattle.ctl_text.specs.Answers.{IsRefusal};
 ghost use Rattle.ctl_text.specs.inside.Made.{value_of, IsWhole};
 
+use crate::format::Format;
 use crate::pairs::Pairs;
 use crate::place::{Place, Reader};
 use crate::spec::Spec;
 use crate::take::take_line;
 use ctl_form::{Normal, PairSpec};
-use interconnection::{Edge, Edges, MAX_NEIGHBOURS, Network, NetworkFault, Process, Processes};
+use interconnection::{Edge, MAX_NEIGHBOURS, Network, NetworkFault, Process};
 use pair_structure::Memory;
 use std::alloc::Global;
 use strict_text::cut_line;
@@ -56,12 +57,7 @@ fn read_text(alloc: Global, bytes: &[u8]) -> Result<Made, TextFault>
     ensures whole { IfOk result IsWhole }
     ensures refused { IfErr result (IsRefusal bytes.now) }
 {
-    let mut reader = Reader {
-        pairs: Pairs::new(alloc),
-        processes: Processes::new(alloc),
-        edges: Edges::new(alloc),
-        place: Place::BeforeHead,
-    };
+    let mut reader = Reader::new(alloc, Format::First, Place::BeforeHead);
     let mut rest = bytes;
     let mut line: u64 = 1;
     while !rest.is_empty() {
@@ -93,6 +89,7 @@ fn ended(alloc: Global, reader: Reader) -> Result<Made, LineFault>
         processes,
         edges,
         place,
+        ..
     } = reader;
     match place {
         Place::BeforeHead => Err(LineFault::Bad(TextCause::BadHead)),

@@ -1,8 +1,8 @@
-ghost use Rattle.std.specs.Prelude.{◌≡◌, ◌≤◌, ◌^◌, IfOk, IfErr, length};
+ghost use Rattle.std.specs.Prelude.{◌≡◌, ◌≤◌, ◌^◌, All, IfOk, IfErr, length, map};
 ghost use Rattle.std.specs.Option.{option_copied};
 ghost use Rattle.pair_structure.specs.Name.{IsName};
 ghost use Rattle.text_cause.specs.Answers.{IsBadBy};
-ghost use Rattle.ctl_text.specs.Item.{role_line, local_line, start_line, arc_line, kind_line, process_line, edge_line, IsSpelled};
+ghost use Rattle.ctl_text.specs.Item.{role_line, local_line, start_line, set_line, arc_line, kind_line, process_line, edge_line, IsSpelled};
 ghost use Rattle.ctl_text.specs.State.{MayStand};
 ghost use Rattle.ctl_text.specs.inside.Judged.{IsSaidTaken};
 ghost use Rattle.ctl_text.specs.inside.LineCause.{LineBlocks};
@@ -11,8 +11,9 @@ ghost use Rattle.ctl_text.specs.inside.View.{group_of, state_of, said};
 
 use crate::added::{edge_added, process_added};
 use crate::ended::take_end;
+use crate::format::most_processes;
 use crate::graph_cause::{edge_cause, kind_cause};
-use crate::grown::{opened_kind, with_arc, with_local, with_start};
+use crate::grown::{opened_kind, with_arc, with_local, with_set, with_start};
 use crate::item::Item;
 use crate::names::name_of;
 use crate::open_role::OpenRole;
@@ -31,7 +32,7 @@ pub(crate) fn take_said(alloc: Global, reader: Reader, item: Item<'_>) -> Result
     ensures refused { IfErr result (IsBadBy (LineBlocks (state_of reader) (said item.entry))) }
 {
     match item {
-        Item::Head => Ok(opened(reader, Place::AmongRoles)),
+        Item::Head(format) => Ok(Reader::new(alloc, format, Place::AmongRoles)),
         Item::Role(name) => {
             let reader = take_role(alloc, reader, name)?;
             Ok(reader)
@@ -42,6 +43,10 @@ pub(crate) fn take_said(alloc: Global, reader: Reader, item: Item<'_>) -> Result
         }
         Item::Start(name) => {
             let reader = take_start(reader, name)?;
+            Ok(reader)
+        }
+        Item::Set { name, members } => {
+            let reader = take_set(alloc, reader, name, members)?;
             Ok(reader)
         }
         Item::Arc { from, to, free } => {
@@ -85,7 +90,7 @@ fn take_role(alloc: Global, reader: Reader, name: &[u8]) -> Result<Reader, LineF
     if let Some(cause) = role_cause(reader.pairs.roles(), name) {
         return Err(LineFault::Bad(cause));
     }
-    let role = OpenRole::new(alloc, name_of(alloc, name)?);
+    let role = OpenRole::new(alloc, reader.format, name_of(alloc, name)?);
     Ok(opened(reader, Place::InRole(role)))
 }
 
@@ -105,6 +110,22 @@ fn take_start(mut reader: Reader, name: &[u8]) -> Result<Reader, LineFault>
     ensures refused { IfErr result (IsBadBy (LineBlocks (state_of reader) (start_line name.now))) }
 {
     reader.place = with_start(reader.place, name)?;
+    Ok(reader)
+}
+
+fn take_set(
+    alloc: Global,
+    mut reader: Reader,
+    name: &[u8],
+    members: &[&[u8]],
+) -> Result<Reader, LineFault>
+    requires sound { IsSoundState (state_of reader) }
+    requires name { IsName name.now }
+    requires members { All IsName (map (λ m. m.now) members.now) }
+    ensures taken { IfOk result (λ r. IsSaidTaken (state_of reader) (set_line name.now (map (λ m. m.now) members.now)) (state_of r)) }
+    ensures refused { IfErr result (IsBadBy (LineBlocks (state_of reader) (set_line name.now (map (λ m. m.now) members.now)))) }
+{
+    reader.place = with_set(alloc, reader.place, name, members)?;
     Ok(reader)
 }
 
@@ -148,8 +169,9 @@ fn take_process(
     ensures taken { IfOk result (λ r. IsSaidTaken (state_of reader) (process_line name.now role.now (option_copied start.entry)) (state_of r)) }
     ensures refused { IfErr result (IsBadBy (LineBlocks (state_of reader) (process_line name.now role.now (option_copied start.entry)))) }
 {
+    let most = most_processes(reader.format);
     let roles = reader.pairs.roles();
-    if let Some(cause) = process_cause(roles, &reader.processes, name, role, start) {
+    if let Some(cause) = process_cause(most, roles, &reader.processes, name, role, start) {
         return Err(LineFault::Bad(cause));
     }
     let reader = process_added(alloc, reader, name, role, start)?;
@@ -167,8 +189,7 @@ fn take_edge(
     ensures taken { IfOk result (λ r. IsSaidTaken (state_of reader) (edge_line a.now b.now kind.now) (state_of r)) }
     ensures refused { IfErr result (IsBadBy (LineBlocks (state_of reader) (edge_line a.now b.now kind.now))) }
 {
-    let kinds = reader.pairs.kinds();
-    if let Some(cause) = edge_cause(&reader.processes, kinds, &reader.edges, a, b, kind) {
+    if let Some(cause) = edge_cause(&reader, a, b, kind) {
         return Err(LineFault::Bad(cause));
     }
     let reader = edge_added(alloc, reader, a, b, kind)?;

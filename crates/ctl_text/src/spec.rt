@@ -19,7 +19,7 @@ pub struct Spec {
 impl Model for Spec {
     ghost use Rattle.std.specs.Prelude.{◌≡◌};
     ghost use Rattle.std.specs.Coded.{codes};
-    ghost use Rattle.ctl_form.specs.Code.{form_code};
+    ghost use Rattle.ctl_form.specs.inside.CodeBack.{form_code};
     ghost use Rattle.ctl_text.specs.Normals.{AreNormals};
     ghost use Rattle.ctl_text.specs.SoundValue.{IsSoundValue};
     ghost use Rattle.ctl_text.specs.Value.{SpecParts, kind_ends};

@@ -43,7 +43,7 @@ fn write_lines(
 ) -> Result<(), AllocError>
     ensures { OnOk result (into.new.items ≡ into.old.items ++ spec_text (record { roles = roles.now; kinds = kinds.now; processes = processes.now; edges = edges.now })) }
 {
-    into.extend_from_slice(b"pairs 1\n")?;
+    into.extend_from_slice(b"pairs 2\n")?;
     write_roles(roles, into)?;
     write_kinds(roles, kinds, into)?;
     write_processes(roles, processes, into)?;

@@ -4,7 +4,7 @@ ghost use Rattle.ctl_text.specs.Item.{Said};
 ghost use Rattle.text_cause.specs.Answers.{IsBadBy};
 ghost use Rattle.ctl_text.specs.inside.Judged.{IsTakenAs, CanSay, misplaced};
 ghost use Rattle.text_cause.specs.Cause.{IsLowest, IsFree};
-ghost use Rattle.ctl_text.specs.Cause.{Blocks, WordsStand, Stands, Takes};
+ghost use Rattle.ctl_text.specs.Cause.{BarsLine, WordsStand, Stands, Takes};
 ghost use Rattle.ctl_text.specs.inside.Sound.{IsSoundState};
 ghost use Rattle.ctl_text.specs.inside.View.{group_of, state_of, said};
 
@@ -91,7 +91,7 @@ fn take_item(alloc: Global, reader: Reader, words: &[&[u8]]) -> Result<Reader, L
 }
 
 /// What the words say, if it may stand there.
-fn placed_item<'a>(place: &Place, words: &[&'a [u8]]) -> Option<Item<'a>>
+fn placed_item<'a>(place: &Place, words: &'a [&'a [u8]]) -> Option<Item<'a>>
     requires { IsRequire (map (λ w. w.now) words.now) → ⊥ }
     ensures some { IfSome result (λ item. CanSay (group_of place.now) (map (λ w. w.now) words.now) (said item)) }
     ensures none { IfNone result ((item : Said) → CanSay (group_of place.now) (map (λ w. w.now) words.now) item → ⊥) }

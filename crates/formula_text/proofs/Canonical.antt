@@ -8,9 +8,12 @@ use Rattle.formula_text.specs.declared.sign.Sign.{Sign}
 use Rattle.formula_text.specs.declared.sign.Sign.TheVariants.{Behind, Until}
 use Rattle.formula_text.specs.Canonical.{AreNames, IsOver, CanonicalIsFormula}
 use Rattle.formula_text.specs.FormulaText.{formula_text}
+use Rattle.formula_text.specs.Sets.{plain, signs_over}
+use Rattle.formula_text.specs.Sign.{signs_of}
 use Rattle.formula_text.specs.Token.{tokens_of}
-use Rattle.formula_text.specs.Tree.{signs, signs_of, Fits, tree_form, is_known, AreKnown}
+use Rattle.formula_text.specs.Tree.{signs, Fits, tree_form, is_known, AreKnown}
 use Rattle.formula_text.proofs.CanonicalSigns.{tree_of, text_says}
+use Rattle.formula_text.proofs.SetLaws.{plain_signs}
 
 pub form_again : (f : Form) → tree_form (tree_of f) ≡ f
 form_again truth = refl
@@ -61,7 +64,8 @@ canonical_signs a b f na nb over =
 
 pub canonical_is_formula : CanonicalIsFormula
 canonical_is_formula a b f na nb over =
-    let same = canonical_signs a b f na nb over in
+    let text = tokens_of (formula_text a b f) in
+    let same : signs_over (plain a) (plain b) text ≡ signs (tree_of f) = plain_signs a b text ∙ canonical_signs a b f na nb over in
     record {
       spelled = record { tree = tree_of f; spells = same; fits = fits_each 0 f; means = form_again f };
       known = subst AreKnown (sym same) (known_each f);

@@ -16,10 +16,10 @@ use Rattle.formula_text.specs.declared.sign.Sign.{Sign}
 use Rattle.formula_text.specs.declared.sign.Sign.TheVariants.{Alone, Before, Open, Behind, Path, Until}
 use Rattle.formula_text.specs.Canonical.{AreNames, IsOver}
 use Rattle.formula_text.specs.FormulaText.{formula_text, path_letter, side_letters, until_letter}
-use Rattle.formula_text.specs.Sign.{sign_of}
+use Rattle.formula_text.specs.Sign.{sign_of, signs_of}
 use Rattle.strict_text.specs.Pieces.{is_space}
 use Rattle.formula_text.specs.Token.{tokens_of, is_word_byte, are_joined}
-use Rattle.formula_text.specs.Tree.{Tree, leaf, prefixed, grouped, conjunction, disjunction, implication, waits, signs, signs_of}
+use Rattle.formula_text.specs.Tree.{Tree, leaf, prefixed, grouped, conjunction, disjunction, implication, waits, signs}
 use Rattle.strict_text.proofs.Positions.{both_true}
 
 -- the spelling that the canonical text is

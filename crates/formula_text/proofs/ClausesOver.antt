@@ -1,6 +1,8 @@
 -- A formula in whose spelling each name is known is over the local states of the two sides.
 use Rattle.std.proofs.Common.{ℕ, ◌≡◌, ◌<◌, true, Option, Some, None, List, [], ◌∷◌, ◌++◌, length, refl, subst}
+use Rattle.std.specs.List.{list_all}
 use Rattle.pair_structure.specs.Parts.{Names}
+use Rattle.pair_structure.specs.declared.side.Side.{Side}
 use Rattle.pair_structure.specs.declared.side.Side.TheVariants.{A, B}
 use Rattle.ctl_form.specs.Form.{Form}
 use Rattle.formula_text.specs.declared.sign.Leaf.{Leaf}
@@ -10,9 +12,11 @@ use Rattle.formula_text.specs.declared.sign.Prefix.TheVariants.{Not, Next, Alway
 use Rattle.formula_text.specs.declared.sign.Sign.{Sign}
 use Rattle.formula_text.specs.declared.sign.Sign.TheVariants.{Alone, Behind, Until}
 use Rattle.formula_text.specs.Canonical.{IsOver}
-use Rattle.formula_text.specs.Sign.{behind_dot, word_sign, sign_of, atom_or, number_of}
-use Rattle.formula_text.specs.Tree.{Tree, leaf, prefixed, grouped, conjunction, disjunction, implication, waits, signs, signs_of, tree_form, is_known, is_known_leaf, AreKnown, Spells}
-use Rattle.formula_text.proofs.SignRows.{word_kept, atom_or_kept, number_below}
+use Rattle.formula_text.specs.Sets.{Atoms, members_at, set_or, signs_over, token_signs}
+use Rattle.formula_text.specs.Sign.{atom_sign, behind_dot, word_sign, sign_of, atom_or, number_of}
+use Rattle.formula_text.specs.Tree.{Tree, leaf, prefixed, grouped, conjunction, disjunction, implication, waits, signs, tree_form, is_known, is_known_leaf, AreKnown, Spells}
+use Rattle.formula_text.proofs.SetLaws.{Each, each_append, set_or_each}
+use Rattle.formula_text.proofs.SignRows.{word_kept, atom_kept, atom_or_kept, number_below}
 use Rattle.strict_text.proofs.Positions.{both_true}
 
 -- an atom is one of its side's local states
@@ -29,6 +33,10 @@ SignOver a b s = Unit {0}
 abbrev EachOver : Names → Names → List Sign → Type 0
 EachOver a b [] = Unit {0}
 EachOver a b (s ∷ ss) = SignOver a b s × EachOver a b ss
+
+abbrev locals_on : Names → Names → Side → Names
+locals_on a b A = a
+locals_on a b B = b
 
 -- where a sign is known, it is over the local states
 abbrev IfKnown : Names → Names → Sign → Type 0
@@ -50,9 +58,23 @@ sign_over a b token =
     (λ h k. tt, (λ h k. tt, (λ h k. tt, (λ h k. tt, (λ h k. tt, (λ h k. tt, tt))))))
     (λ h k. tt, (λ h k. tt, (λ h k. tt, (λ h k. tt, (λ h k. tt, (λ h k. tt, tt))))))))
 
-each_known : (a b : Names) (tokens : List (List ℕ)) → AreKnown (signs_of a b tokens) → EachOver a b (signs_of a b tokens)
-each_known a b [] known = tt
-each_known a b (t ∷ ts) known = let h = both_true (is_known (sign_of a b t)) _ known in (sign_over a b t h.0, each_known a b ts h.1)
+member_over : (a b : Names) (side : Side) (name : List ℕ) → IfKnown a b (atom_sign side (locals_on a b side) name)
+member_over a b A name = atom_kept (IfKnown a b) A a name (λ k. tt) (atom_a a b (number_of a name) (number_below a name))
+member_over a b B name = atom_kept (IfKnown a b) B b name (λ k. tt) (atom_b a b (number_of b name) (number_below b name))
+
+-- so is each sign of a token, also where it names a set
+token_over : (a b : Atoms) (token : List ℕ) → Each (IfKnown a.locals b.locals) (token_signs a b token)
+token_over a b token =
+    set_or_each (IfKnown a.locals b.locals) A a.locals (members_at 97 a.sets token) (set_or B b.locals (members_at 98 b.sets token) (sign_of a.locals b.locals token ∷ [])) (λ k. tt) (λ k. tt) (λ k. tt) (member_over a.locals b.locals A)
+    (set_or_each (IfKnown a.locals b.locals) B b.locals (members_at 98 b.sets token) (sign_of a.locals b.locals token ∷ []) (λ k. tt) (λ k. tt) (λ k. tt) (member_over a.locals b.locals B) (sign_over a.locals b.locals token, tt))
+
+tokens_over : (a b : Atoms) (tokens : List (List ℕ)) → Each (IfKnown a.locals b.locals) (signs_over a b tokens)
+tokens_over a b [] = tt
+tokens_over a b (t ∷ ts) = each_append (IfKnown a.locals b.locals) (token_signs a b t) (signs_over a b ts) (token_over a b t) (tokens_over a b ts)
+
+known_over : (a b : Names) (ss : List Sign) → Each (IfKnown a b) ss → AreKnown ss → EachOver a b ss
+known_over a b [] each known = tt
+known_over a b (s ∷ ss) each known = let h = both_true (is_known s) (list_all is_known ss) known in (each.0 h.0, known_over a b ss each.1 h.1)
 
 over_left : (a b : Names) (ss ts : List Sign) → EachOver a b (ss ++ ts) → EachOver a b ss
 over_left a b [] ts h = tt
@@ -81,5 +103,5 @@ tree_over a b (waits all weak f g) h =
     let more = over_right a b (signs f) (Until weak ∷ (signs g ++ (Behind Right ∷ []))) h.1.1 in
     (tree_over a b f (over_left a b (signs f) (Until weak ∷ (signs g ++ (Behind Right ∷ []))) h.1.1), tree_over a b g (over_left a b (signs g) (Behind Right ∷ []) more.1))
 
-pub spelled_over : (a b : Names) (tokens : List (List ℕ)) (f : Form) → Spells (signs_of a b tokens) f → AreKnown (signs_of a b tokens) → IsOver a b f
-spelled_over a b tokens f h known = subst (IsOver a b) h.means (tree_over a b h.tree (subst (EachOver a b) h.spells (each_known a b tokens known)))
+pub spelled_over : (a b : Atoms) (tokens : List (List ℕ)) (f : Form) → Spells (signs_over a b tokens) f → AreKnown (signs_over a b tokens) → IsOver a.locals b.locals f
+spelled_over a b tokens f h known = subst (IsOver a.locals b.locals) h.means (tree_over a.locals b.locals h.tree (subst (EachOver a.locals b.locals) h.spells (known_over a.locals b.locals (signs_over a b tokens) (tokens_over a b tokens) known)))

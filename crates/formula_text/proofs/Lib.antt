@@ -6,6 +6,7 @@ pub mod ReadAgain
 pub mod ReadTakes
 pub mod ReadingRules
 pub mod RoleNames
+pub mod SetLaws
 pub mod SignRows
 pub mod Spelled
 pub mod TokenLaws

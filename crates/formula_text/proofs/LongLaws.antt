@@ -1,24 +1,18 @@
 -- How counts go on over the tokens that are left.
 use Rattle.std.proofs.Common.{ℕ, zero, suc, ◌≡◌, ◌<◌, ◌≤◌, ◌+◌, ◌-◌, Bool, true, false, ap, List, [], ◌∷◌, length, get_or, drop, map, max, refl, arith, cond}
-use Rattle.std.proofs.lemmas.List.Sums.{sum_by-cons}
-use Rattle.std.specs.List.{count_by}
-use Rattle.formula_text.specs.Long.{is_open, is_close, is_counted, open_after, most_open}
-
-pub counted_next : {X : Type 0} (f : X → List ℕ) (xs : List X) (i : ℕ) (d : X) → i < length xs → count_by is_counted (drop i (map f xs)) ≡ cond (is_counted (f (get_or xs i d))) 1 0 + count_by is_counted (drop (i + 1) (map f xs))
-counted_next f [] i d lt = absurd (omega arith)
-counted_next f (x ∷ xs) zero d lt = sum_by-cons (λ t. cond (is_counted t) 1 0) (f x) (map f xs)
-counted_next f (x ∷ xs) (suc i) d lt = let next : suc i + 1 ≡ suc (i + 1) = omega arith in rw next (counted_next f xs i d (omega arith))
+use Rattle.formula_text.specs.Long.{is_open, is_close, open_after, most_open}
 
 pub most_next : {X : Type 0} (f : X → List ℕ) (xs : List X) (i : ℕ) (d : X) (n : ℕ) → i < length xs → most_open n (drop i (map f xs)) ≡ max n (most_open (open_after n (f (get_or xs i d))) (drop (i + 1) (map f xs)))
 most_next f [] i d n lt = absurd (omega arith)
 most_next f (x ∷ xs) zero d n lt = refl
 most_next f (x ∷ xs) (suc i) d n lt = let next : suc i + 1 ≡ suc (i + 1) = omega arith in rw next (most_next f xs i d n (omega arith))
 
-pub counted_step : (n m i total here rest : ℕ) (b : Bool) → n ≤ i → n + here ≡ total → m ≡ n + 1 → b ≡ true → here ≡ cond b 1 0 + rest → (m ≤ i + 1) × (m + rest ≡ total)
-counted_step n m i total here rest b le sum is passes next = let e : here ≡ 1 + rest = rw passes at next in (omega arith, omega arith)
+-- so many are counted, this one counts as w, and the rest as the rest
+pub weight_over : (n w total here rest weight : ℕ) → n + here ≡ total → w ≡ weight → here ≡ weight + rest → 256 < n + w → 256 < total
+weight_over n w total here rest weight sum is next over = omega (arith, sum, is, next, over)
 
-pub passed_step : (n m i total here rest : ℕ) (b : Bool) → n ≤ i → n + here ≡ total → m ≡ n → b ≡ false → here ≡ cond b 1 0 + rest → (m ≤ i + 1) × (m + rest ≡ total)
-passed_step n m i total here rest b le sum is fails next = let e : here ≡ 0 + rest = rw fails at next in (omega arith, omega arith)
+pub weight_step : (n w total here rest weight : ℕ) → n + here ≡ total → w ≡ weight → here ≡ weight + rest → n + w ≤ 256 → (n + w ≤ 256) × (n + w + rest ≡ total)
+weight_step n w total here rest weight sum is next le = (le, omega (arith, sum, is, next))
 
 small_after : (b c : Bool) (n : ℕ) → cond b (n + 1) (cond c (n - 1) n) ≤ n + 1
 small_after true c n = omega arith

@@ -7,7 +7,7 @@ use Rattle.formula_text.specs.declared.sign.Sign.{Sign}
 use Rattle.formula_text.specs.declared.sign.Sign.TheVariants.{Behind, Until}
 use Rattle.formula_text.specs.Tree.{Tree, leaf, prefixed, grouped, conjunction, disjunction, implication, waits, signs, Fits, tree_form}
 use Rattle.formula_text.specs.inside.FormulaReading.{Part, formula, chain_of, unary, goes_on, Found, past, parse}
-use Rattle.formula_text.proofs.ReadingRules.{Gives, with_more, leaf_rule, prefix_rule, group_rule, wait_rule, chain_rule, more_rule, chain_ends, formula_ends, arrow_rule}
+use Rattle.formula_text.proofs.ReadingRules.{ReadsAs, with_more, leaf_rule, prefix_rule, group_rule, wait_rule, chain_rule, more_rule, chain_ends, formula_ends, arrow_rule}
 
 -- the fuel that the spelling takes where a unary stands
 abbrev pub cost : Tree → ℕ
@@ -26,16 +26,16 @@ pub record IsEnd (rest : List Sign) : Type 0 where
   pub no_arrow : past Arrow rest ≡ None
 
 abbrev UnaryAgain : Tree → Type 0
-UnaryAgain t = (rest : List Sign) → Gives (cost t) unary (signs t ++ rest) (tree_form t, rest)
+UnaryAgain t = (rest : List Sign) → ReadsAs (cost t) unary (signs t ++ rest) (tree_form t, rest)
 
 abbrev AndAgain : Tree → Type 0
-AndAgain t = (rest : List Sign) (x : Found) (k : ℕ) → Gives k (goes_on Conjunction (tree_form t)) rest x → Gives (cost t + 1 + k) (chain_of Conjunction) (signs t ++ rest) x
+AndAgain t = (rest : List Sign) (x : Found) (k : ℕ) → ReadsAs k (goes_on Conjunction (tree_form t)) rest x → ReadsAs (cost t + 1 + k) (chain_of Conjunction) (signs t ++ rest) x
 
 abbrev OrAgain : Tree → Type 0
-OrAgain t = (rest : List Sign) (x : Found) (k : ℕ) → past And rest ≡ None → Gives k (goes_on Disjunction (tree_form t)) rest x → Gives (cost t + 3 + k) (chain_of Disjunction) (signs t ++ rest) x
+OrAgain t = (rest : List Sign) (x : Found) (k : ℕ) → past And rest ≡ None → ReadsAs k (goes_on Disjunction (tree_form t)) rest x → ReadsAs (cost t + 3 + k) (chain_of Disjunction) (signs t ++ rest) x
 
 abbrev FormulaAgain : Tree → Type 0
-FormulaAgain t = (rest : List Sign) → IsEnd rest → Gives (cost t + 5) formula (signs t ++ rest) (tree_form t, rest)
+FormulaAgain t = (rest : List Sign) → IsEnd rest → ReadsAs (cost t + 5) formula (signs t ++ rest) (tree_form t, rest)
 
 -- read again at each level at which it may stand
 record Again (t : Tree) : Type 0 where
@@ -74,8 +74,8 @@ waits_on weak rest = record { no_and = refl; no_or = refl; no_arrow = refl }
 ends_right : (rest : List Sign) → IsEnd (Behind Right ∷ rest)
 ends_right rest = record { no_and = refl; no_or = refl; no_arrow = refl }
 
-along : (k : ℕ) (part : Part) (ss ts : List Sign) (x : Found) → ts ≡ ss → Gives k part ts x → Gives k part ss x
-along k part ss ts x same reads = subst (λ ss. Gives k part ss x) same reads
+along : (k : ℕ) (part : Part) (ss ts : List Sign) (x : Found) → ts ≡ ss → ReadsAs k part ts x → ReadsAs k part ss x
+along k part ss ts x same reads = subst (λ ss. ReadsAs k part ss x) same reads
 
 group_again : (f : Tree) → FormulaAgain f → UnaryAgain (grouped f)
 group_again f again rest =

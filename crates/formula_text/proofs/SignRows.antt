@@ -34,7 +34,7 @@ word_kept P (first ∷ rest) other of_path of_words of_marks =
 pub number_below : (names : Names) (name : List ℕ) (n : ℕ) → number_of names name ≡ Some n → n < length names
 number_below names name n e = (position-Some (λ x. bytes_eq x name) names n [] e).0
 
-atom_kept : (P : Sign → Type 0) (side : Side) (names : Names) (name : List ℕ) → P Other → P (Alone (At side (number_of names name))) → P (atom_sign side names name)
+pub atom_kept : (P : Sign → Type 0) (side : Side) (names : Names) (name : List ℕ) → P Other → P (Alone (At side (number_of names name))) → P (atom_sign side names name)
 atom_kept P side names name other atom = chosen P (is_name name) (Alone (At side (number_of names name))) Other (λ e. atom) other
 
 pub atom_or_kept : (P : Sign → Type 0) (side : Side) (names : Names) (found : Option (List ℕ)) (otherwise : Sign) → P Other → ((name : List ℕ) → P (Alone (At side (number_of names name)))) → P otherwise → P (atom_or side names found otherwise)

@@ -1,10 +1,11 @@
 -- However a formula is spelled, as many of its tokens are no round parentheses; its canonical text opens fewer than that.
-use Rattle.std.proofs.Common.{ℕ, ◌≡◌, ◌<◌, ◌≤◌, ◌+◌, ◌-◌, inl, inr, Bool, true, false, cond, not, ◌||◌, List, [], ◌∷◌, ◌++◌, codes, refl, sym, ap, ◌∙◌, arith}
+use Rattle.std.proofs.Common.{ℕ, ◌≡◌, ◌<◌, ◌≤◌, ◌+◌, ◌-◌, ◌*◌, inl, inr, Bool, true, false, cond, not, ◌||◌, Option, Some, None, List, [], ◌∷◌, ◌++◌, codes, length, refl, sym, ap, ◌∙◌, arith}
 use Rattle.std.proofs.lemmas.Bool.{cases_lt}
 use Rattle.std.proofs.lemmas.List.Sums.{sum_by-cons}
 use Rattle.std.proofs.lemmas.Slice.Eq.{bytes_eq-Decides}
-use Rattle.std.specs.List.{count_by}
+use Rattle.std.specs.List.{count_by, sum_by}
 use Rattle.pair_structure.specs.Parts.{Names}
+use Rattle.pair_structure.specs.declared.side.Side.{Side}
 use Rattle.pair_structure.specs.declared.side.Side.TheVariants.{A, B}
 use Rattle.ctl_form.specs.Form.{Form, truth, falsity, at, neg, both, either, implies, next, always, sometime, until}
 use Rattle.formula_text.specs.declared.sign.Leaf.TheVariants.{Yes, No, At}
@@ -14,13 +15,15 @@ use Rattle.formula_text.specs.declared.sign.Sign.{Sign}
 use Rattle.formula_text.specs.declared.sign.Sign.TheVariants.{Open, Behind, Until}
 use Rattle.formula_text.specs.Canonical.{AreNames, IsOver}
 use Rattle.formula_text.specs.FormulaText.{formula_text}
-use Rattle.formula_text.specs.Long.{is_open, is_close, is_counted, open_after, most_open, IsLong}
-use Rattle.formula_text.specs.Sign.{behind_dot, word_sign, sign_of, atom_or}
+use Rattle.formula_text.specs.Long.{is_open, is_close, is_counted, open_after, most_open, set_weight_or, weight_of, IsLong}
+use Rattle.formula_text.specs.Sets.{Atoms, plain, members_at, joined_signs, member_signs, set_or, signs_over, token_signs}
+use Rattle.formula_text.specs.Sign.{atom_sign, behind_dot, word_sign, sign_of, signs_of, atom_or}
 use Rattle.formula_text.specs.Token.{tokens_of}
-use Rattle.formula_text.specs.Tree.{Tree, leaf, prefixed, grouped, conjunction, disjunction, implication, waits, signs, signs_of, tree_form, Spells}
+use Rattle.formula_text.specs.Tree.{Tree, leaf, prefixed, grouped, conjunction, disjunction, implication, waits, signs, tree_form, Spells}
 use Rattle.formula_text.proofs.Canonical.{form_again, canonical_signs}
 use Rattle.formula_text.proofs.CanonicalSigns.{tree_of}
-use Rattle.formula_text.proofs.SignRows.{word_kept, atom_or_kept}
+use Rattle.formula_text.proofs.SetLaws.{plain_signs}
+use Rattle.formula_text.proofs.SignRows.{word_kept, atom_kept, atom_or_kept}
 
 -- a sign that is no round parenthesis
 abbrev IsCounted : Sign → Type 0
@@ -127,10 +130,36 @@ token_counts a b token true u e f = let is = (bytes_eq-Decides token (codes "(")
 token_counts a b token false true e f = let is = (bytes_eq-Decides token (codes ")")).0 f in (sym (ap (λ x. counts (sign_of a b x)) is), sym (ap (λ x. opens (sign_of a b x)) is))
 token_counts a b token false false e f = let h = counts_one (sign_of a b token) (sign_counted a b token e f) in (sym h.0, sym h.1)
 
-tokens_count : (a b : Names) (tokens : List (List ℕ)) → count_by is_counted tokens ≡ counted (signs_of a b tokens)
+atom_counts : (side : Side) (names : Names) (name : List ℕ) → counts (atom_sign side names name) ≡ 1
+atom_counts side names name = atom_kept (λ s. counts s ≡ 1) side names name refl refl
+
+joined_count : (side : Side) (names : Names) (members : List (List ℕ)) → counted (joined_signs side names members) ≡ 2 * length members
+joined_count side names [] = refl
+joined_count side names (m ∷ ms) = let one = atom_counts side names m in let more = joined_count side names ms in omega (arith, one, more)
+
+member_count : (side : Side) (names : Names) (members : List (List ℕ)) → counted (member_signs side names members) ≡ 2 * length members - 1
+member_count side names [] = refl
+member_count side names (m ∷ ms) = let one = atom_counts side names m in let more = joined_count side names ms in omega (arith, one, more)
+
+set_or_count : (side : Side) (names : Names) (found : Option (List (List ℕ))) (otherwise : List Sign) (w : ℕ) → counted otherwise ≡ w → counted (set_or side names found otherwise) ≡ set_weight_or found w
+set_or_count side names None otherwise w rest = rest
+set_or_count side names (Some members) otherwise w rest = let whole = counted_append (member_signs side names members) (Behind Close ∷ []) in let here = member_count side names members in omega (arith, whole, here)
+
+-- a token counts as its signs do, also where it names a set
+token_count : (a b : Atoms) (token : List ℕ) → counted (token_signs a b token) ≡ weight_of a.sets b.sets token
+token_count a b token =
+    let one = token_counts a.locals b.locals token (is_open token) (is_close token) refl refl in
+    let last : counted (sign_of a.locals b.locals token ∷ []) ≡ cond (is_counted token) 1 0 = omega (arith, one.0) in
+    set_or_count A a.locals (members_at 97 a.sets token) (set_or B b.locals (members_at 98 b.sets token) (sign_of a.locals b.locals token ∷ [])) (set_weight_or (members_at 98 b.sets token) (cond (is_counted token) 1 0))
+    (set_or_count B b.locals (members_at 98 b.sets token) (sign_of a.locals b.locals token ∷ []) (cond (is_counted token) 1 0) last)
+
+tokens_count : (a b : Atoms) (tokens : List (List ℕ)) → sum_by (weight_of a.sets b.sets) tokens ≡ counted (signs_over a b tokens)
 tokens_count a b [] = refl
 tokens_count a b (t ∷ ts) =
-    sum_by-cons (λ t. cond (is_counted t) 1 0) t ts ∙ ap (λ n. n + count_by is_counted ts) (token_counts a b t (is_open t) (is_close t) refl refl).0 ∙ ap (λ n. counts (sign_of a b t) + n) (tokens_count a b ts)
+    let first = sum_by-cons (weight_of a.sets b.sets) t ts in
+    let here = token_count a b t in
+    let more = tokens_count a b ts in
+    let whole = counted_append (token_signs a b t) (signs_over a b ts) in omega (arith, first, here, more, whole)
 
 tokens_open : (a b : Names) (tokens : List (List ℕ)) → count_by is_open tokens ≡ opened (signs_of a b tokens)
 tokens_open a b [] = refl
@@ -149,21 +178,21 @@ most_few n (t ∷ ts) =
     let here = after_few (is_open t) (is_close t) n in
     let whole = sum_by-cons (λ t. cond (is_open t) 1 0) t ts in omega (arith, more, here, whole)
 
-pub spelled_weight : (a b : Names) (tokens : List (List ℕ)) (f : Form) → Spells (signs_of a b tokens) f → count_by is_counted tokens ≡ weight f
+pub spelled_weight : (a b : Atoms) (tokens : List (List ℕ)) (f : Form) → Spells (signs_over a b tokens) f → sum_by (weight_of a.sets b.sets) tokens ≡ weight f
 spelled_weight a b tokens f h = tokens_count a b tokens ∙ ap counted h.spells ∙ tree_weight h.tree ∙ ap weight h.means
 
-weight_again : (a b : Names) (f : Form) (text : List (List ℕ)) → signs_of a b text ≡ signs (tree_of f) → counted (signs (tree_of f)) ≡ weight f → weight f ≤ 256 → IsLong text → ⊥
-weight_again a b f text same whole few (inl many) = let e = tokens_count a b text in let s = ap counted same in omega (arith, many, few, whole, e, s)
+weight_again : (a b : Names) (f : Form) (text : List (List ℕ)) → signs_of a b text ≡ signs (tree_of f) → counted (signs (tree_of f)) ≡ weight f → weight f ≤ 256 → IsLong [] [] text → ⊥
+weight_again a b f text same whole few (inl many) = let e = tokens_count (plain a) (plain b) text ∙ ap counted (plain_signs a b text ∙ same) in omega (arith, many, few, whole, e)
 weight_again a b f text same whole few (inr deep) =
     let most = most_few 0 text in let e = tokens_open a b text in let s = ap opened same in let h = tree_opens f in omega (arith, deep, most, few, e, s, h)
 
-not_many : (a b : Names) (tokens : List (List ℕ)) (f : Form) → Spells (signs_of a b tokens) f → (IsLong tokens → ⊥) → weight f ≤ 256
-not_many a b tokens f spells short = few (count_by is_counted tokens) (weight f) (spelled_weight a b tokens f spells) (λ many. short (inl many))
+not_many : (a b : Atoms) (tokens : List (List ℕ)) (f : Form) → Spells (signs_over a b tokens) f → (IsLong a.sets b.sets tokens → ⊥) → weight f ≤ 256
+not_many a b tokens f spells short = few (sum_by (weight_of a.sets b.sets) tokens) (weight f) (spelled_weight a b tokens f spells) (λ many. short (inl many))
   where
     few : (n w : ℕ) → n ≡ w → (256 < n → ⊥) → w ≤ 256
     few n w is none = elim (cases_lt 256 n) [ inl many ↦ absurd (none many) | inr le ↦ omega arith ]
 
 -- where some spelling of a formula is not too long, its canonical text is not
-pub canonical_short : (a b : Names) (tokens : List (List ℕ)) (f : Form) → AreNames a → AreNames b → IsOver a b f → Spells (signs_of a b tokens) f → (IsLong tokens → ⊥) → IsLong (tokens_of (formula_text a b f)) → ⊥
+pub canonical_short : (a b : Atoms) (tokens : List (List ℕ)) (f : Form) → AreNames a.locals → AreNames b.locals → IsOver a.locals b.locals f → Spells (signs_over a b tokens) f → (IsLong a.sets b.sets tokens → ⊥) → IsLong [] [] (tokens_of (formula_text a.locals b.locals f)) → ⊥
 canonical_short a b tokens f na nb over spells short =
-    weight_again a b f (tokens_of (formula_text a b f)) (canonical_signs a b f na nb over) (tree_weight (tree_of f) ∙ ap weight (form_again f)) (not_many a b tokens f spells short)
+    weight_again a.locals b.locals f (tokens_of (formula_text a.locals b.locals f)) (canonical_signs a.locals b.locals f na nb over) (tree_weight (tree_of f) ∙ ap weight (form_again f)) (not_many a b tokens f spells short)

@@ -5,6 +5,7 @@ use Rattle.pair_structure.specs.Parts.{Names, name_at}
 use Rattle.pair_structure.specs.declared.side.Side.TheVariants.{A, B}
 use Rattle.ctl_form.specs.Form.{Form, truth, falsity, at, neg, both, either, implies, next, always, sometime, until}
 use Rattle.formula_text.specs.FormulaText.{formula_text}
+use Rattle.formula_text.specs.Sets.{plain}
 use Rattle.formula_text.specs.Sign.{number_of}
 use Rattle.formula_text.specs.Token.{tokens_of}
 use Rattle.formula_text.specs.Tree.{IsFormulaOf}
@@ -31,4 +32,4 @@ IsOver a b (until all weak f g) = IsOver a b f × IsOver a b g
 
 -- the canonical text of a formula over two roles' names is a spelling of it
 abbrev pub CanonicalIsFormula : Type 0
-CanonicalIsFormula = (a b : Names) (f : Form) → AreNames a → AreNames b → IsOver a b f → IsFormulaOf a b (tokens_of (formula_text a b f)) f
+CanonicalIsFormula = (a b : Names) (f : Form) → AreNames a → AreNames b → IsOver a b f → IsFormulaOf (plain a) (plain b) (tokens_of (formula_text a b f)) f

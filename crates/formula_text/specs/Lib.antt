@@ -1,6 +1,7 @@
 pub mod Canonical
 pub mod FormulaText
 pub mod Long
+pub mod Sets
 pub mod Sign
 pub mod Token
 pub mod Tree

@@ -1,5 +1,5 @@
 -- What a token says in a formula over the names of two roles' local states.
-use Rattle.std.specs.Prelude.{ℕ, Bool, true, false, Option, Some, None, List, [], ◌∷◌, ◌==◌, ◌&&◌, codes, position, if◌then◌else◌}
+use Rattle.std.specs.Prelude.{ℕ, Bool, true, false, Option, Some, None, List, [], ◌∷◌, ◌==◌, ◌&&◌, codes, map, position, if◌then◌else◌}
 use Rattle.std.specs.Str.{bytes_eq}
 use Rattle.pair_structure.specs.Name.{is_name}
 pub use Rattle.pair_structure.specs.Parts.{Names}
@@ -75,3 +75,7 @@ atom_or side names (Some name) otherwise = atom_sign side names name
 -- 97 is 'a', 98 is 'b'
 abbrev pub sign_of : Names → Names → List ℕ → Sign
 sign_of a b token = atom_or A a (behind_dot 97 token) (atom_or B b (behind_dot 98 token) (word_sign token))
+
+-- what tokens say where no atom names a set
+abbrev pub signs_of : Names → Names → List (List ℕ) → List Sign
+signs_of a b tokens = map (sign_of a b) tokens

@@ -1,10 +1,9 @@
 -- The grammar of formulas: what is spelled, by which signs, and where each spelling may stand.
-use Rattle.std.specs.Prelude.{ℕ, ◌≡◌, ◌≤◌, Bool, true, false, map, None, List, [], ◌∷◌, ◌++◌}
-use Rattle.pair_structure.specs.Parts.{Names}
+use Rattle.std.specs.Prelude.{ℕ, ◌≡◌, ◌≤◌, Bool, true, false, None, List, [], ◌∷◌, ◌++◌}
 use Rattle.ctl_form.specs.Form.{Form, truth, falsity, at, neg, both, either, implies, next, always, sometime, until}
 use Rattle.std.specs.List.{list_all}
 use Rattle.std.specs.Option.{unwrap_or}
-use Rattle.formula_text.specs.Sign.{sign_of}
+use Rattle.formula_text.specs.Sets.{Atoms, signs_over}
 use Rattle.formula_text.specs.declared.formula_fault.FormulaFault.{FormulaFault}
 use Rattle.formula_text.specs.declared.formula_fault.FormulaFault.TheVariants.{Outside, Unknown, Memory}
 use Rattle.formula_text.specs.declared.sign.Leaf.{Leaf}
@@ -86,19 +85,15 @@ is_known _ = true
 abbrev pub AreKnown : List Sign → Type 0
 AreKnown ss = list_all is_known ss ≡ true
 
--- what tokens say over the names of two roles' local states
-abbrev pub signs_of : Names → Names → List (List ℕ) → List Sign
-signs_of a b tokens = map (sign_of a b) tokens
-
 -- the tokens are a spelling of the formula, and each name in them is known
-pub record IsFormulaOf (a b : Names) (tokens : List (List ℕ)) (f : Form) : Type 0 where
-  pub spelled : Spells (signs_of a b tokens) f
-  pub known : AreKnown (signs_of a b tokens)
+pub record IsFormulaOf (a b : Atoms) (tokens : List (List ℕ)) (f : Form) : Type 0 where
+  pub spelled : Spells (signs_over a b tokens) f
+  pub known : AreKnown (signs_over a b tokens)
 
 -- why tokens are no formula: they spell none, or one in which a name is unknown
-abbrev pub FaultStands : Names → Names → List (List ℕ) → FormulaFault → Type 0
-FaultStands a b tokens Outside = (f : Form) → Spells (signs_of a b tokens) f → ⊥
-FaultStands a b tokens Unknown = ((f : Form) × Spells (signs_of a b tokens) f) × (AreKnown (signs_of a b tokens) → ⊥)
+abbrev pub FaultStands : Atoms → Atoms → List (List ℕ) → FormulaFault → Type 0
+FaultStands a b tokens Outside = (f : Form) → Spells (signs_over a b tokens) f → ⊥
+FaultStands a b tokens Unknown = ((f : Form) × Spells (signs_over a b tokens) f) × (AreKnown (signs_over a b tokens) → ⊥)
 FaultStands a b tokens Memory = Unit {0}
 
 -- signs spell one formula at most

@@ -102,7 +102,7 @@ fn joined_by_until(
 #[tactic(auto, unfolding(crate::specs::inside::FormulaReading::parse))]
 pub(crate) fn parse_formula<'a>(
     alloc: Global,
-    depth: usize,
+    depth: u128,
     signs: &'a [Sign],
 ) -> Result<Option<(Formula, &'a [Sign])>, Memory>
     ensures { IfOk result (λ found. option_map (λ x. (form_of x.0, x.1.now)) found ≡ parse depth formula signs.now) }
@@ -127,7 +127,7 @@ pub(crate) fn parse_formula<'a>(
 #[tactic(auto, unfolding(crate::specs::inside::FormulaReading::parse))]
 fn parse_chain<'a>(
     alloc: Global,
-    depth: usize,
+    depth: u128,
     chain: Chain,
     signs: &'a [Sign],
 ) -> Result<Option<(Formula, &'a [Sign])>, Memory>
@@ -146,7 +146,7 @@ fn parse_chain<'a>(
 #[cycle(parser)]
 fn parse_operand<'a>(
     alloc: Global,
-    depth: usize,
+    depth: u128,
     chain: Chain,
     signs: &'a [Sign],
 ) -> Result<Option<(Formula, &'a [Sign])>, Memory>
@@ -163,7 +163,7 @@ fn parse_operand<'a>(
 #[tactic(auto, unfolding(crate::specs::inside::FormulaReading::parse))]
 fn parse_more<'a>(
     alloc: Global,
-    depth: usize,
+    depth: u128,
     chain: Chain,
     f: Formula,
     signs: &'a [Sign],
@@ -186,7 +186,7 @@ fn parse_more<'a>(
 #[tactic(auto, unfolding(crate::specs::inside::FormulaReading::parse))]
 fn parse_unary<'a>(
     alloc: Global,
-    depth: usize,
+    depth: u128,
     signs: &'a [Sign],
 ) -> Result<Option<(Formula, &'a [Sign])>, Memory>
     ensures { IfOk result (λ found. option_map (λ x. (form_of x.0, x.1.now)) found ≡ parse depth unary signs.now) }
@@ -218,7 +218,7 @@ fn parse_unary<'a>(
 #[tactic(auto, unfolding(crate::specs::inside::FormulaReading::parse))]
 fn parse_group<'a>(
     alloc: Global,
-    depth: usize,
+    depth: u128,
     signs: &'a [Sign],
 ) -> Result<Option<(Formula, &'a [Sign])>, Memory>
     ensures { IfOk result (λ found. option_map (λ x. (form_of x.0, x.1.now)) found ≡ parse depth group signs.now) }
@@ -240,7 +240,7 @@ fn parse_group<'a>(
 #[tactic(auto, unfolding(crate::specs::inside::FormulaReading::parse))]
 fn parse_wait<'a>(
     alloc: Global,
-    depth: usize,
+    depth: u128,
     all: bool,
     signs: &'a [Sign],
 ) -> Result<Option<(Formula, &'a [Sign])>, Memory>

@@ -1,27 +1,55 @@
-ghost use Rattle.std.specs.Prelude.{◌↔◌, ◌≡◌, ◌<◌, IsTrue, count_by, map};
-ghost use Rattle.formula_text.specs.Long.{IsLong, is_open, is_close, is_counted, open_after, most_open};
+ghost use Rattle.std.specs.Prelude.{◌↔◌, ◌≡◌, ◌<◌, ◌*◌, ◌-◌, ◌^◌, IsTrue, length, map};
+ghost use Rattle.std.specs.List.{sum_by};
+ghost use Rattle.formula_text.specs.Long.{IsLong, is_open, is_close, is_counted, open_after, most_open, weight_of};
+
+use crate::local_set::{LocalSet, members_at};
+use pair_structure::Name;
 
 /// The most tokens that are not round parentheses, and the most round parentheses that are open at one place.
 const MOST: usize = 256;
 
-/// Whether the tokens of a formula are too many to be read. Linear in the tokens.
-pub fn is_long(tokens: &[&[u8]]) -> bool
-    ensures { IsTrue result ↔ IsLong (map (λ t. t.now) tokens.now) }
+/// Whether the tokens of a formula are too many to be read, where its atoms may name these sets of the two sides. Linear in the tokens, and
+/// of each in the names of sets.
+pub fn is_long(a: &[LocalSet], b: &[LocalSet], tokens: &[&[u8]]) -> bool
+    ensures { IsTrue result ↔ IsLong a.now b.now (map (λ t. t.now) tokens.now) }
 {
-    counted(tokens) > MOST || most_open(tokens) > MOST
+    are_many(a, b, tokens) || most_open(tokens) > MOST
 }
 
-/// How many of these are no round parentheses.
-fn counted(tokens: &[&[u8]]) -> usize
-    ensures { result ≡ count_by is_counted (map (λ t. t.now) tokens.now) }
+/// Whether they count as more than `MOST`.
+fn are_many(a: &[LocalSet], b: &[LocalSet], tokens: &[&[u8]]) -> bool
+    ensures { IsTrue result ↔ (256 < sum_by (weight_of a.now b.now) (map (λ t. t.now) tokens.now)) }
 {
-    let mut counted = 0;
+    let mut counted: usize = 0;
     for token in tokens {
-        if is_counted(token) {
-            counted += 1;
+        counted += weight_of(a, b, token);
+        if counted > MOST {
+            return true;
         }
     }
-    counted
+    false
+}
+
+/// As how many tokens this one counts.
+fn weight_of(a: &[LocalSet], b: &[LocalSet], token: &[u8]) -> usize
+    ensures weight { result ≡ weight_of a.now b.now token.now }
+    ensures small { result < 2 ^ 62 }
+{
+    if let Some(members) = members_at(b'a', a, token) {
+        return set_weight(members);
+    }
+    if let Some(members) = members_at(b'b', b, token) {
+        return set_weight(members);
+    }
+    if is_counted(token) { 1 } else { 0 }
+}
+
+/// As how many tokens an atom of a set of these members counts.
+fn set_weight(members: &[Name]) -> usize
+    ensures weight { result ≡ 2 * length members.now - 1 }
+    ensures small { result < 2 ^ 62 }
+{
+    (2 * members.len()).saturating_sub(1)
 }
 
 /// The most round parentheses that are open at one place.

@@ -1,32 +1,110 @@
-ghost use Rattle.std.specs.Prelude.{◌≡◌, ◌≤◌, ◌<◌, true, false, length, map, position, IfSome, IfOk};
+ghost use Rattle.std.specs.Prelude.{◌≡◌, ◌≤◌, ◌<◌, true, false, ◌++◌, length, map, position, IfSome, IfOk, OnOk};
 ghost use Rattle.std.specs.Option.{option_map};
 ghost use Rattle.std.specs.Str.{bytes_eq};
+ghost use Rattle.formula_text.specs.Sets.{joined_signs, member_signs, set_signs, token_signs, signs_over};
 ghost use Rattle.formula_text.specs.Sign.{sign_of, word_sign, said_in, path_words, words, marks, number_of, behind_dot, atom_sign};
 ghost use Rattle.formula_text.specs.declared.sign.Sign.TheVariants.{Other};
 
+use crate::local_set::{LocalSet, members_at};
 use crate::sign::{Leaf, Mark, Prefix, Sign};
 use pair_structure::{MAX_LOCALS, Memory, Name, Side, is_name};
-use std::alloc::Global;
+use std::alloc::{AllocError, Global};
 
-/// What each of these tokens says, over the names of the two roles' local states.
-pub(crate) fn signs_of(
+/// What these tokens say, over what the atoms of the two sides may name.
+pub(crate) fn signs_over(
     alloc: Global,
     a: &[Name],
+    a_sets: &[LocalSet],
     b: &[Name],
+    b_sets: &[LocalSet],
     tokens: &[&[u8]],
 ) -> Result<Vec<Sign>, Memory>
     requires few_a { length a.now ≤ MAX_LOCALS }
     requires few_b { length b.now ≤ MAX_LOCALS }
-    ensures { IfOk result (λ signs. signs.items ≡ map (sign_of a.now b.now) (map (λ t. t.now) tokens.now)) }
+    ensures { IfOk result (λ signs. signs.items ≡ signs_over (record { locals = a.now; sets = a_sets.now }) (record { locals = b.now; sets = b_sets.now }) (map (λ t. t.now) tokens.now)) }
 {
     let mut signs = Vec::with_capacity(alloc, tokens.len())?;
     for token in tokens {
-        signs.push(sign_of(a, b, token))?;
+        push_token(a, a_sets, b, b_sets, token, &mut signs)?;
     }
     Ok(signs)
 }
 
-/// What this token says, over the names of the two roles' local states.
+/// Appends what the token says.
+fn push_token(
+    a: &[Name],
+    a_sets: &[LocalSet],
+    b: &[Name],
+    b_sets: &[LocalSet],
+    token: &[u8],
+    into: &mut Vec<Sign>,
+) -> Result<(), AllocError>
+    requires few_a { length a.now ≤ MAX_LOCALS }
+    requires few_b { length b.now ≤ MAX_LOCALS }
+    ensures { OnOk result (into.new.items ≡ into.old.items ++ token_signs (record { locals = a.now; sets = a_sets.now }) (record { locals = b.now; sets = b_sets.now }) token.now) }
+{
+    if let Some(members) = members_at(b'a', a_sets, token) {
+        return push_set(Side::A, a, members, into);
+    }
+    if let Some(members) = members_at(b'b', b_sets, token) {
+        return push_set(Side::B, b, members, into);
+    }
+    into.push(sign_of(a, b, token))?;
+    Ok(())
+}
+
+/// Appends the disjunction of the members' atoms, in round parentheses.
+fn push_set(
+    side: Side,
+    names: &[Name],
+    members: &[Name],
+    into: &mut Vec<Sign>,
+) -> Result<(), AllocError>
+    requires { length names.now ≤ MAX_LOCALS }
+    ensures { OnOk result (into.new.items ≡ into.old.items ++ set_signs side names.now members.now) }
+{
+    into.push(Sign::Open)?;
+    push_members(side, names, members, into)?;
+    into.push(Sign::Behind(Mark::Close))?;
+    Ok(())
+}
+
+/// Appends the members' atoms, with a `|` between two.
+fn push_members(
+    side: Side,
+    names: &[Name],
+    members: &[Name],
+    into: &mut Vec<Sign>,
+) -> Result<(), AllocError>
+    requires { length names.now ≤ MAX_LOCALS }
+    ensures { OnOk result (into.new.items ≡ into.old.items ++ member_signs side names.now members.now) }
+{
+    let [first, more @ ..] = members else {
+        return Ok(());
+    };
+    into.push(atom_sign(side, names, first.as_str().as_bytes()))?;
+    push_joined(side, names, more, into)?;
+    Ok(())
+}
+
+/// Appends the members' atoms, each with a `|` before it.
+fn push_joined(
+    side: Side,
+    names: &[Name],
+    members: &[Name],
+    into: &mut Vec<Sign>,
+) -> Result<(), AllocError>
+    requires { length names.now ≤ MAX_LOCALS }
+    ensures { OnOk result (into.new.items ≡ into.old.items ++ joined_signs side names.now members.now) }
+{
+    for member in members {
+        into.push(Sign::Behind(Mark::Or))?;
+        into.push(atom_sign(side, names, member.as_str().as_bytes()))?;
+    }
+    Ok(())
+}
+
+/// What this token says, where it names no set.
 fn sign_of(a: &[Name], b: &[Name], token: &[u8]) -> Sign
     requires few_a { length a.now ≤ MAX_LOCALS }
     requires few_b { length b.now ≤ MAX_LOCALS }
@@ -42,7 +120,7 @@ fn sign_of(a: &[Name], b: &[Name], token: &[u8]) -> Sign
 }
 
 /// What stands behind this letter and a dot.
-fn behind_dot(letter: u8, token: &[u8]) -> Option<&[u8]>
+pub(crate) fn behind_dot(letter: u8, token: &[u8]) -> Option<&[u8]>
     ensures { option_map (λ name. name.now) result ≡ behind_dot letter token.now }
 {
     match token {

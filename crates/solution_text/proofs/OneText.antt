@@ -11,15 +11,15 @@ use Rattle.ctl_form.specs.Kind.{role_at}
 use Rattle.text_cause.specs.declared.cause.TextCause.TheVariants.{UnknownName}
 use Rattle.text_cause.specs.Cause.{IsFree}
 use Rattle.ctl_text.specs.Value.{number_in}
-use Rattle.ctl_text.proofs.Named.{contained, named_at}
+use Rattle.ctl_text.proofs.Named.{Contains-not_not, named_at}
 use Rattle.strict_text.specs.Lines.{Line, text_of, lines_of}
 use Rattle.strict_text.specs.Words.{words_of}
 use Rattle.strict_text.specs.Spaced.{spaced}
 use Rattle.strict_text.proofs.WordLaws.{one_line}
 use Rattle.strict_text.proofs.LineLaws.{text_of_lines}
 use Rattle.solution_text.specs.Item.{Said, head_line, kind_line, state_line, move_line, end_line, done_line, words_for}
-use Rattle.solution_text.specs.State.{Group, before_head, among_kinds, in_kind, after_done, State, first_state, MayStand, after}
-use Rattle.solution_text.specs.Cause.{LabelBlocks, Blocks, EndsWhole}
+use Rattle.solution_text.specs.State.{Group, before_head, among_kinds, in_kind, after_done, State, first_state, MayStand, after_line}
+use Rattle.solution_text.specs.Cause.{LabelBlocks, BarsLine, EndsWhole}
 use Rattle.text_cause.specs.Grammar.{StandsFor}
 use Rattle.solution_text.specs.Text.{solutions, IsSolutionText}
 use Rattle.solution_text.specs.SolutionText.{item_text, state_text, move_text, kinds_text, solution_text, AreOver}
@@ -59,7 +59,7 @@ same_name x y not_not = elim (bytes_eq x y) as (λ t. bytes_eq x y ≡ t → x �
 ] refl
 
 used : (names : List (List ℕ)) (name : List ℕ) → ((Contains names name → ⊥) → ⊥) → get_or names (number_in names name) [] ≡ name
-used names name not_not = named_at names name (contained names name not_not)
+used names name not_not = named_at names name (Contains-not_not names name not_not)
 
 state_same : (a b : RoleParts) (p q : List ℕ) → IsFree (LabelBlocks a b p q) → state_text a.locals b.locals (number_in a.locals p, number_in b.locals q) ≡ item_text (state_line p q)
 state_same a b p q free =
@@ -69,7 +69,7 @@ state_same a b p q free =
 
 -- before the head, and where a kind is opened
 opens : (roles : List RoleParts) (made : List Structure) (kind : PairSpec) (left : List PairSpec) (name : List ℕ) (v : List Structure) (text : List ℕ) → name ≡ kind.name
-    → Comes roles (after roles (record { made = made; left = kind ∷ left; group = among_kinds }) (kind_line name)) v text
+    → Comes roles (after_line roles (record { made = made; left = kind ∷ left; group = among_kinds }) (kind_line name)) v text
     → Comes roles (record { made = made; left = kind ∷ left; group = among_kinds }) v (item_text (kind_line name) ++ text)
 opens roles made kind left name v text is h =
     let o = h.remains in
@@ -151,8 +151,8 @@ with_ended roles made left a b states moves v text whole h = record {
 }
 
 before : (roles : List RoleParts) (made : List Structure) (left : List PairSpec) (group : Group) (item : Said) (v : List Structure) (text : List ℕ)
-    → MayStand group left item → IsFree (Blocks (record { made = made; left = left; group = group }) item) → EndsWhole item group
-    → Comes roles (after roles (record { made = made; left = left; group = group }) item) v text
+    → MayStand group left item → IsFree (BarsLine (record { made = made; left = left; group = group }) item) → EndsWhole item group
+    → Comes roles (after_line roles (record { made = made; left = left; group = group }) item) v text
     → Comes roles (record { made = made; left = left; group = group }) v (item_text item ++ text)
 before roles made left before_head head_line v text may free whole h = record { more = h.more; v_is = h.v_is; remains = (h.remains.0, ap (λ t. item_text head_line ++ t) h.remains.1) }
 before roles made (kind ∷ left) among_kinds (kind_line name) v text may free whole h = opens roles made kind left name v text (same_name name kind.name (λ differ. free.free UnknownName (refl, differ))) h
@@ -172,7 +172,7 @@ item_before item text = sym (append_assoc (spaced (words_for item)) (10 ∷ []) 
 comes : (roles : List RoleParts) (s : State) (lines : List Line) (v : List Structure) → StandsFor (solutions roles) s lines v → Comes roles s v (text_of lines)
 comes roles s [] v h = record { more = []; v_is = h.1 ∙ sym (append-nil s.made); remains = subst (λ g. Remains roles s.left g [] []) (sym h.0) (refl, refl) }
 comes roles s (line ∷ lines) v (t, takes, more) =
-    let later : Comes roles (after roles s takes.item) v (text_of lines) = subst (λ t. Comes roles t v (text_of lines)) takes.next (comes roles t lines v more) in
+    let later : Comes roles (after_line roles s takes.item) v (text_of lines) = subst (λ t. Comes roles t v (text_of lines)) takes.next (comes roles t lines v more) in
     let text = line_is line (words_for takes.item) (text_of lines) lines takes.may.ended takes.may.says.words_are refl ∙ item_before takes.item (text_of lines) in
     subst (λ text. Comes roles s v text) (sym text) (before roles s.made s.left s.group takes.item v (text_of lines) takes.may.may (blocks_stand s line takes.item takes.may takes.free) takes.whole later)
 

@@ -11,15 +11,15 @@ use Rattle.text_cause.proofs.Lowest.{From, OneEach}
 use Rattle.text_cause.proofs.Rows.{line_once}
 use Rattle.strict_text.specs.Lines.{Line, IsStrict}
 use Rattle.solution_text.specs.Item.{Said, head_line, kind_line, state_line, move_line, end_line, done_line}
-use Rattle.solution_text.specs.State.{State, Group, before_head, among_kinds, in_kind, after_done, after}
-use Rattle.solution_text.specs.Cause.{Blocks, EndBlocks, KindBlocks, LabelBlocks, LacksHead, MaySay, PairBlocks, StateBlocks, Stands, Takes}
+use Rattle.solution_text.specs.State.{State, Group, before_head, among_kinds, in_kind, after_done, after_line}
+use Rattle.solution_text.specs.Cause.{BarsLine, EndBlocks, KindBlocks, LabelBlocks, LacksHead, MaySay, PairBlocks, StateBlocks, Stands, Takes}
 use Rattle.solution_text.specs.Text.{EndStands, solutions}
 use Rattle.pair_structure.proofs.OneStructureFault.{first_structure_fault_once}
 use Rattle.solution_text.proofs.ItemLaws.{says_once}
 use Rattle.solution_text.proofs.Judged.{says_one}
 
 pub takes_once : (roles : List RoleParts) (s : State) (line : Line) (t u : State) → Takes roles s line t → Takes roles s line u → t ≡ u
-takes_once roles s line t u a b = a.next ∙ ap (after roles s) (says_once _ a.item b.item a.may.says b.may.says) ∙ sym b.next
+takes_once roles s line t u a b = a.next ∙ ap (after_line roles s) (says_once _ a.item b.item a.may.says b.may.says) ∙ sym b.next
 
 -- the causes against what a line says: none comes above an unknown name, and of each number one stands at most
 from_kind : (left : List PairSpec) (name : List ℕ) → From 5 (KindBlocks left name)
@@ -55,7 +55,7 @@ one_end before_head c d same p q = absurd p
 one_end among_kinds c d same p q = absurd p
 one_end after_done c d same p q = absurd p
 
-from_said : (s : State) (item : Said) → From 5 (Blocks s item)
+from_said : (s : State) (item : Said) → From 5 (BarsLine s item)
 from_said s (kind_line name) cause h = from_kind s.left name cause h
 from_said s (state_line p q) cause h = let e : cause_no cause ≡ cause_no UnknownName = ap cause_no (unknown_state s.group p q cause h) in omega arith
 from_said s end_line cause h = from_end s.group cause h
@@ -63,7 +63,7 @@ from_said s head_line cause h = absurd h
 from_said s (move_line move) cause h = absurd h
 from_said s done_line cause h = absurd h
 
-one_said : (s : State) (item : Said) → OneEach (Blocks s item)
+one_said : (s : State) (item : Said) → OneEach (BarsLine s item)
 one_said s (kind_line name) c d same p q = one_kind s.left name c d same p q
 one_said s (state_line x y) c d same p q = unknown_state s.group x y c p ∙ sym (unknown_state s.group x y d q)
 one_said s end_line c d same p q = one_end s.group c d same p q
@@ -72,7 +72,7 @@ one_said s (move_line move) c d same p q = absurd p
 one_said s done_line c d same p q = absurd p
 
 refused_once : (s : State) (line : Line) (c d : TextCause) → IsLowest (Stands s line) c → IsLowest (Stands s line) d → c ≡ d
-refused_once s line c d a b = line_once (IsStrict line.bytes → ⊥) (LacksHead s.group line.bytes) (MaySay s line) (Blocks s) (says_one s line) (from_said s) (one_said s) c d a b
+refused_once s line c d a b = line_once (IsStrict line.bytes → ⊥) (LacksHead s.group line.bytes) (MaySay s line) (BarsLine s) (says_one s line) (from_said s) (one_said s) c d a b
 
 gives_free : (g : Group) (cause : TextCause) → g ≡ after_done → EndStands g cause → ⊥
 gives_free g cause is h = let end = subst (λ g. EndStands g cause) is h in end

@@ -25,8 +25,8 @@ use Rattle.strict_text.specs.Spaced.{spaced, IsWord, AreWords}
 use Rattle.strict_text.proofs.NumberLaws.{decimal_word}
 use Rattle.strict_text.proofs.WordLaws.{words_of_line, line_of_words, strict_words, word_of_bytes}
 use Rattle.solution_text.specs.Item.{Said, head_line, kind_line, state_line, move_line, end_line, done_line, side_word, words_for, IsSpelled}
-use Rattle.solution_text.specs.State.{among_kinds, in_kind, State, first_state, MayStand, after}
-use Rattle.solution_text.specs.Cause.{LabelBlocks, Blocks, MaySay, EndsWhole}
+use Rattle.solution_text.specs.State.{among_kinds, in_kind, State, first_state, MayStand, after_line}
+use Rattle.solution_text.specs.Cause.{LabelBlocks, BarsLine, MaySay, EndsWhole}
 use Rattle.solution_text.specs.Laws.{IsNumbered}
 use Rattle.text_cause.specs.Grammar.{StandsFor}
 use Rattle.solution_text.specs.Text.{solutions, IsSolutionText}
@@ -62,14 +62,14 @@ item_words end_line h = word_of_bytes (codes "end") refl
 item_words done_line h = word_of_bytes (codes "done") refl
 
 -- a written line is taken, if nothing stands against what it says
-line_stands : (roles : List RoleParts) (s : State) (item : Said) (rest : List ℕ) (v : List Structure) → IsSpelled item → MayStand s.group s.left item → IsFree (Blocks s item) → EndsWhole item s.group
-    → StandsFor (solutions roles) (after roles s item) (lines_of rest) v → StandsFor (solutions roles) s (lines_of (item_text item ++ rest)) v
+line_stands : (roles : List RoleParts) (s : State) (item : Said) (rest : List ℕ) (v : List Structure) → IsSpelled item → MayStand s.group s.left item → IsFree (BarsLine s item) → EndsWhole item s.group
+    → StandsFor (solutions roles) (after_line roles s item) (lines_of rest) v → StandsFor (solutions roles) s (lines_of (item_text item ++ rest)) v
 line_stands roles s item rest v spelled may free whole more =
     let words = item_words item spelled in
     let line : Line = record { bytes = spaced (words_for item); is_ended = true } in
     let says : MaySay s line item = record { ended = refl; says = record { words_are = words_of_line (words_for item) words; spelled = spelled }; may = may } in
-    let takes = said_takes roles s (after roles s item) line item (strict_words (words_for item) words) says (record { free = free; whole = whole; next = refl }) in
-    rw (line_of_words (words_for item) rest words) (after roles s item, takes, more)
+    let takes = said_takes roles s (after_line roles s item) line item (strict_words (words_for item) words) says (record { free = free; whole = whole; next = refl }) in
+    rw (line_of_words (words_for item) rest words) (after_line roles s item, takes, more)
 
 -- the open kind, with these states and moves
 abbrev Open : List Structure → List PairSpec → RoleParts → RoleParts → List (ℕ × ℕ) → List Move → State

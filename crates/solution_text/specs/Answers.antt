@@ -6,8 +6,8 @@ use Rattle.text_cause.specs.declared.cause.TextFault.{TextFault}
 use Rattle.text_cause.specs.Cause.{IsFree}
 use Rattle.text_cause.specs.Answers.{IsRefusal as IsRefusalBy}
 use Rattle.solution_text.specs.Item.{Said}
-use Rattle.solution_text.specs.State.{State, after, first_state}
-use Rattle.solution_text.specs.Cause.{Blocks, EndsWhole}
+use Rattle.solution_text.specs.State.{State, after_line, first_state}
+use Rattle.solution_text.specs.Cause.{BarsLine, EndsWhole}
 use Rattle.solution_text.specs.Text.{solutions}
 
 -- both roles of the kind are among so many
@@ -17,9 +17,9 @@ pub record HasRoles (count : ℕ) (kind : PairSpec) : Type 0 where
 
 -- nothing stands against what the line says, and it leaves this state
 pub record IsTakenAs (roles : List RoleParts) (s : State) (item : Said) (t : State) : Type 0 where
-  pub free : IsFree (Blocks s item)
+  pub free : IsFree (BarsLine s item)
   pub whole : EndsWhole item s.group
-  pub next : t ≡ after roles s item
+  pub next : t ≡ after_line roles s item
 
 -- want of memory, or the first bad line and its lowest cause
 abbrev pub IsRefusal : List RoleParts → List PairSpec → List ℕ → TextFault → Type 0

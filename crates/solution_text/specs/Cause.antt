@@ -13,7 +13,7 @@ use Rattle.ctl_text.specs.Cause.{UseStands}
 use Rattle.strict_text.specs.Lines.{Line, IsStrict}
 use Rattle.strict_text.specs.Words.{words_of}
 use Rattle.solution_text.specs.Item.{Said, head_line, kind_line, state_line, end_line, words_for, Says}
-use Rattle.solution_text.specs.State.{Group, before_head, in_kind, State, MayStand, after}
+use Rattle.solution_text.specs.State.{Group, before_head, in_kind, State, MayStand, after_line}
 
 -- against the name of a kind, where these kinds are left
 abbrev pub KindBlocks : List PairSpec → List ℕ → TextCause → Type 0
@@ -39,11 +39,11 @@ EndBlocks (in_kind a b states moves) cause = PairBlocks a b states moves cause
 EndBlocks group cause = ⊥
 
 -- what stands against a line that may stand there
-abbrev pub Blocks : State → Said → TextCause → Type 0
-Blocks s (kind_line name) cause = KindBlocks s.left name cause
-Blocks s (state_line p q) cause = StateBlocks s.group p q cause
-Blocks s end_line cause = EndBlocks s.group cause
-Blocks s item cause = ⊥
+abbrev pub BarsLine : State → Said → TextCause → Type 0
+BarsLine s (kind_line name) cause = KindBlocks s.left name cause
+BarsLine s (state_line p q) cause = StateBlocks s.group p q cause
+BarsLine s end_line cause = EndBlocks s.group cause
+BarsLine s item cause = ⊥
 
 -- the line ends, and its words say something that may stand there
 pub record MaySay (s : State) (line : Line) (item : Said) : Type 0 where
@@ -57,7 +57,7 @@ LacksHead group line = (group ≡ before_head) × (words_of line ≢ words_for h
 
 -- what stands against a line, below this state
 abbrev pub Stands : State → Line → TextCause → Type 0
-Stands s line = LineStands (IsStrict line.bytes → ⊥) (LacksHead s.group line.bytes) (MaySay s line) (Blocks s)
+Stands s line = LineStands (IsStrict line.bytes → ⊥) (LacksHead s.group line.bytes) (MaySay s line) (BarsLine s)
 
 -- an open group is whole: a kind's states and moves are a structure over its roles
 abbrev pub IsWhole : Group → Type 0
@@ -75,4 +75,4 @@ pub record Takes (roles : List RoleParts) (s : State) (line : Line) (t : State) 
   pub item : Said
   pub may : MaySay s line item
   pub whole : EndsWhole item s.group
-  pub next : t ≡ after roles s item
+  pub next : t ≡ after_line roles s item

@@ -57,10 +57,10 @@ with_ended made (in_kind a b states moves) = made ++ record { states = states; m
 with_ended made group = made
 
 -- what stands below a line that says this
-abbrev pub after : List RoleParts → State → Said → State
-after roles s head_line = record { made = s.made; left = s.left; group = among_kinds }
-after roles s (kind_line name) = record { made = s.made; left = behind s.left; group = opened roles s.left }
-after roles s (state_line p q) = record { made = s.made; left = s.left; group = with_state s.group p q }
-after roles s (move_line move) = record { made = s.made; left = s.left; group = with_move s.group move }
-after roles s end_line = record { made = with_ended s.made s.group; left = s.left; group = among_kinds }
-after roles s done_line = record { made = s.made; left = s.left; group = after_done }
+abbrev pub after_line : List RoleParts → State → Said → State
+after_line roles s head_line = record { made = s.made; left = s.left; group = among_kinds }
+after_line roles s (kind_line name) = record { made = s.made; left = behind s.left; group = opened roles s.left }
+after_line roles s (state_line p q) = record { made = s.made; left = s.left; group = with_state s.group p q }
+after_line roles s (move_line move) = record { made = s.made; left = s.left; group = with_move s.group move }
+after_line roles s end_line = record { made = with_ended s.made s.group; left = s.left; group = among_kinds }
+after_line roles s done_line = record { made = s.made; left = s.left; group = after_done }

@@ -8,7 +8,7 @@ ghost use Rattle.strict_text.specs.View.{line_of};
 ghost use Rattle.strict_text.specs.Words.{words_of};
 ghost use Rattle.solution_text.specs.Item.{Said, head_line, words_for};
 ghost use Rattle.solution_text.specs.State.{MayStand, opened, behind, with_state, with_move, with_ended};
-ghost use Rattle.solution_text.specs.Cause.{LacksHead, LabelBlocks, PairBlocks, KindBlocks, StateBlocks, EndBlocks, IsWhole, Blocks, Stands, MaySay, Takes};
+ghost use Rattle.solution_text.specs.Cause.{LacksHead, LabelBlocks, PairBlocks, KindBlocks, StateBlocks, EndBlocks, IsWhole, BarsLine, Stands, MaySay, Takes};
 ghost use Rattle.text_cause.specs.Answers.{IsBadBy};
 ghost use Rattle.solution_text.specs.Answers.{HasRoles, IsTakenAs};
 ghost use Rattle.solution_text.specs.inside.View.{group_of, state_of, said};
@@ -96,7 +96,7 @@ fn take_item<'a>(
     requires roles { All (HasRoles (length roles.now)) reader.left.now }
     ensures taken { IfOk result (λ r. IsTakenAs roles.now (state_of reader.entry) (said item.entry) (state_of r)) }
     ensures roles { IfOk result (λ r. All (HasRoles (length roles.now)) r.left.now) }
-    ensures refused { IfErr result (IsBadBy (Blocks (state_of reader.entry) (said item.entry))) }
+    ensures refused { IfErr result (IsBadBy (BarsLine (state_of reader.entry) (said item.entry))) }
 {
     let Reader { made, left, place } = reader;
     match item {

@@ -1,15 +1,15 @@
 -- What judging and taking a line gives.
 use Rattle.std.specs.Prelude.{ℕ, ◌≡◌, ◌∷◌, List, ◌⊎◌, codes}
-use Rattle.pair_structure.specs.Parts.{Names}
 use Rattle.ctl_form.specs.Form.{Form}
 use Rattle.text_cause.specs.declared.cause.TextCause.{TextCause}
 use Rattle.text_cause.specs.declared.cause.TextCause.TheVariants.{BadHead, Long, BadLine, UnknownName}
 use Rattle.text_cause.specs.declared.line_fault.LineFault.{LineFault}
 use Rattle.text_cause.specs.declared.line_fault.LineFault.TheVariants.{Bad, Memory}
 use Rattle.formula_text.specs.Long.{IsLong}
+use Rattle.formula_text.specs.Sets.{Atoms}
 use Rattle.ctl_text.specs.Required.{SpellsOver, AreKnownOver, IsUnspelled}
 use Rattle.ctl_text.specs.Item.{Said, require_line, Says}
-use Rattle.ctl_text.specs.State.{State, Group, before_head, MayStand, after}
+use Rattle.ctl_text.specs.State.{State, Group, before_head, MayStand, after_line}
 use Rattle.ctl_text.specs.Text.{EndStands}
 use Rattle.text_cause.specs.Cause.{IsFree}
 use Rattle.ctl_text.specs.Cause.{WordsStand, MaySay, Leaves}
@@ -24,7 +24,7 @@ pub record IsTakenAs (s : State) (words : List (List ℕ)) (t : State) : Type 0 
 
 -- nothing stands against what the line says, and it leaves this state, which is sound
 pub record IsSaidTaken (s : State) (item : Said) (t : State) : Type 0 where
-  pub next : t ≡ after s item
+  pub next : t ≡ after_line s item
   pub free : IsFree (LineBlocks s item)
   pub sound : IsSoundState t
 
@@ -38,18 +38,18 @@ pub record IsClauseOf (s : State) (words : List (List ℕ)) (form : Form) : Type
   pub may : MaySay s (codes "require" ∷ words) (require_line words form)
   pub free : IsFree (WordsStand s (codes "require" ∷ words))
 
--- what stands against tokens that are to spell a formula over these local states
-abbrev pub SpellingStands : Names → Names → List (List ℕ) → TextCause → Type 0
+-- what stands against tokens that are to spell a formula over what these atoms may name
+abbrev pub SpellingStands : Atoms → Atoms → List (List ℕ) → TextCause → Type 0
 SpellingStands a b tokens cause =
-    ((cause ≡ Long) × IsLong tokens)
+    ((cause ≡ Long) × IsLong a.sets b.sets tokens)
     ⊎ (((cause ≡ BadLine) × IsUnspelled a b tokens)
     ⊎ ((form : Form) × SpellsOver a b tokens form × ((cause ≡ UnknownName) × (AreKnownOver a b tokens → ⊥))))
 
--- the tokens spell this formula over these local states, and nothing stands against them
-pub record IsSpelledOver (a b : Names) (tokens : List (List ℕ)) (form : Form) : Type 0 where
+-- the tokens spell this formula over what these atoms may name, and nothing stands against them
+pub record IsSpelledOver (a b : Atoms) (tokens : List (List ℕ)) (form : Form) : Type 0 where
   pub spells : SpellsOver a b tokens form
   pub known : AreKnownOver a b tokens
-  pub short : IsLong tokens → ⊥
+  pub short : IsLong a.sets b.sets tokens → ⊥
 
 -- the words say something, and the group is open where it stands
 abbrev pub CanSay : Group → List (List ℕ) → Said → Type 0

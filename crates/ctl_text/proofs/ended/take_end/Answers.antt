@@ -9,7 +9,8 @@ pub returns-in_ok-reader-in-InRole-clause-taken : goal.returns-in_ok-reader-in-I
 returns-in_ok-reader-in-InRole-clause-taken c =
     let sound = rw c.in-InRole.is at c.requires.sound in
     let may = rw c.in-InRole.is at c.requires.may in
-    rw c.in-InRole.is (role_ended (state_of c.args.reader).parts (parts_of c.in-InRole.role) c.in_ok-reader-in-InRole.field-0 sound may c.in_ok-reader-in-InRole.ensures.free c.in_ok-reader-in-InRole.ensures.grown)
+    let own = c.in_ok-pairs-in-InRole in
+    rw c.in-InRole.is (role_ended (state_of c.args.reader).parts (parts_of c.in-InRole.role) own.pairs own.sets c.in_ok-reader-in-InRole.field-0.items sound may own.ensures.free own.ensures.grown own.ensures.sets c.in_ok-reader-in-InRole.ensures)
 
 pub returns-in_ok-reader-in-InKind-clause-taken : goal.returns-in_ok-reader-in-InKind-clause-taken
 returns-in_ok-reader-in-InKind-clause-taken c =

@@ -8,4 +8,4 @@ pub make-requires : goal.make-requires
 make-requires c =
     let net : NetworkParts = record { roles = c.args.pairs.roles; ends = kind_ends c.args.pairs.kinds; processes = c.args.processes.items; edges = c.args.edges.items } in
     let lawful = c.requires.lawful in
-    let few = few_edges net 32 lawful lawful.degrees in omega (arith, few, lawful.few_processes)
+    let few = few_edges net 64 lawful lawful.degrees in omega (arith, few, lawful.few_processes)

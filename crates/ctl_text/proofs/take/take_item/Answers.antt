@@ -10,9 +10,9 @@ returns-in_default-clause-refused c =
 
 pub returns-in-Err-clause-refused : goal.returns-in-Err-clause-refused
 returns-in-Err-clause-refused c =
-    said_refused (state_of c.args.reader) _ (said c.in-Some.item) c.in-Err.fault (may_say (state_of c.args.reader) _ (said c.in-Some.item) c.requires.other c.in-Some.ensures.some) (no_long _ c.requires.other) c.in-Err.ensures.refused
+    said_refused (state_of c.args.reader) _ (said c.in-Some.item) c.in-Err.fault (may_say (state_of c.args.reader) _ (said c.in-Some.item) c.requires.other c.in-Some.ensures.some) (no_long (state_of c.args.reader) _ c.requires.other) c.in-Err.ensures.refused
 
 pub returns-in-Ok-clause-taken : goal.returns-in-Ok-clause-taken
 returns-in-Ok-clause-taken c =
     let taken = c.in-Ok.ensures.taken in
-    taken_as (state_of c.args.reader) (state_of c.in-Ok.reader) _ (said c.in-Some.item) (may_say (state_of c.args.reader) _ (said c.in-Some.item) c.requires.other c.in-Some.ensures.some) (no_long _ c.requires.other) (free_by_cause (state_of c.args.reader) (said c.in-Some.item) taken.free) taken.next
+    taken_as (state_of c.args.reader) (state_of c.in-Ok.reader) _ (said c.in-Some.item) (may_say (state_of c.args.reader) _ (said c.in-Some.item) c.requires.other c.in-Some.ensures.some) (no_long (state_of c.args.reader) _ c.requires.other) (free_by_cause (state_of c.args.reader) (said c.in-Some.item) taken.free) taken.next
