@@ -1,3 +1,4 @@
+pub mod AloneLaws
 pub mod ElectLaws
 pub mod KeyLaws
 pub mod KeyOrder

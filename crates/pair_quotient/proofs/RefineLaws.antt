@@ -11,8 +11,8 @@ use Rattle.pair_structure.specs.declared.side.Side.TheVariants.{A, B}
 use Rattle.pair_structure.specs.Structure.{Structure, GoesOn, HasMove, Reaches}
 use Rattle.pair_quotient.specs.inside.Moving.{IsAmong, AreAgreed, HaveMoved}
 use Rattle.pair_quotient.specs.inside.Naming.{IsNameOf}
-use Rattle.pair_quotient.specs.inside.Partition.{IsSplit, IsStable}
-use Rattle.pair_quotient.specs.inside.Refining.{AreBlocks, AreRefined, AreWaiting, IsElected, IsSettled}
+use Rattle.pair_quotient.specs.inside.Partition.{IsMatched, IsSplit, IsStable}
+use Rattle.pair_quotient.specs.inside.Refining.{AreBlocks, AreRefined, AreWaiting, IsAlone, IsElected, IsSettled}
 use Rattle.pair_quotient.specs.inside.Splitting.{AreLed, AreTargets, IsMoved, IsPlaced}
 use Rattle.pair_quotient.proofs.KeyLaws.{same_key}
 use Rattle.pair_quotient.proofs.SplitByKeys.{IsSplit-from, goes_to_new, same_name}
@@ -67,7 +67,7 @@ pub record IsRound (m : Structure) (classes leaders : List ℕ) (settled : List 
   pub aims : AreTargets m classes leaders before waiting (length waiting) leaders' names targets
   pub moves : HaveMoved (length leaders') waiting targets (length waiting) classes new members' moved
   pub waits : AreWaiting (length m.states) settled' waiting'
-  pub unsettled : (s t : ℕ) → Contains moved t → Reaches m s t → IsSettled settled' s → ⊥
+  pub unsettled : (s t : ℕ) → Contains moved t → Reaches m s t → IsSettled settled' s → IsAlone new s
   pub none : length moved ≡ 0 → waiting' ≡ []
 
 module _ (m : Structure) (on : GoesOn m) (classes leaders : List ℕ) (members : List (List ℕ)) (settled : List Bool) (waiting touched : List ℕ) (before : BTreeMap (Vec Move) ℕ) (leaders' : List ℕ) (names : BTreeMap (Vec Move) ℕ) (targets new : List ℕ) (members' : List (List ℕ)) (moved : List ℕ) (settled' : List Bool) (waiting' : List ℕ)
@@ -138,17 +138,24 @@ module _ (m : Structure) (on : GoesOn m) (classes leaders : List ℕ) (members :
   reach A s t step = inl step
   reach B s t step = inr step
 
-  untouched : (s : ℕ) → IsSettled settled' s → IsUntouched m classes new s
-  untouched s is side s' step = elim (ℕ_discrete (slice_index new s') (slice_index classes s')) [
-    | yes e ↦ e
-    | no apart ↦ absurd (r.unsettled s s' (r.moves.changed s' apart) (reach side s s' step) is)
+  -- of two settled states of one block, neither reaches a state that changed its block
+  untouched : (s t : ℕ) → t < length m.states → (t ≡ s → ⊥) → slice_index new t ≡ slice_index new s → IsSettled settled' s → IsUntouched m classes new s
+  untouched s t lt other e is side s' step = elim (ℕ_discrete (slice_index new s') (slice_index classes s')) [
+    | yes f ↦ f
+    | no apart ↦ absurd (other (r.unsettled s s' (r.moves.changed s' apart) (reach side s s' step) is t (omega (arith, lt, r.moves.long, h.blocks.long)) e))
+  ]
+
+  calm : (s t : ℕ) → s < length m.states → t < length m.states → IsSettled settled' s → IsSettled settled' t → slice_index new s ≡ slice_index new t → IsMatched m new s t
+  calm s t ls lt is it e = elim (ℕ_discrete s t) [
+    | yes f ↦ subst (IsMatched m new s) f (λ side s' step. (s', step, refl))
+    | no apart ↦ matched-split m classes new split s t ls lt (untouched s t lt (λ f. apart (sym f)) (sym e) is) (untouched t s ls apart e it) e
   ]
 
   pub refined : AreRefined m new leaders' members' settled' waiting'
   refined = record {
     partition = IsPartition-split m on classes new h.partition split;
     blocks = blocks;
-    calm = record { matched = λ s t ls lt is it e. matched-split m classes new split s t ls lt (untouched s is) (untouched t it) e };
+    calm = record { matched = calm };
     waits = r.waits;
   }
 

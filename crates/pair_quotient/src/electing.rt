@@ -82,7 +82,7 @@ fn elect(
     Ok(())
 }
 
-/// A state of the block, among these, that has the key of more than half of them, if one has; else any.
+/// A state of the block, among these, that has the key of more than half of them, if one has; else any. A vote of one is not held.
 fn frequent_member(
     alloc: Global,
     m: &PairStructure,
@@ -95,6 +95,9 @@ fn frequent_member(
     requires states { All (λ s. s < length m.now.states) states.now }
     ensures { IfOk result (IsMemberIfAny (length m.now.states) classes.now block) }
 {
+    if states.len() < 2 {
+        return Ok(None);
+    }
     let mut vote = Vote {
         state: None,
         key: Vec::new(alloc),

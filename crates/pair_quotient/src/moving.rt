@@ -1,6 +1,6 @@
-ghost use Rattle.std.specs.Prelude.{◌≡◌, ◌⊎◌, ◌+◌, ◌<◌, ◌≤◌, ℕ, length, All, IfOk, OnOk, slice_index, []};
+ghost use Rattle.std.specs.Prelude.{◌≡◌, ◌⊎◌, ◌+◌, ◌<◌, ◌≤◌, ℕ, length, All, IfOk, IsTrue, OnOk, slice_index, []};
 ghost use Rattle.pair_quotient.specs.inside.Moving.{AreAgreed, GoesTo, HaveMoved, StaysIn};
-ghost use Rattle.pair_quotient.specs.inside.Refining.{AreWaiting, IsSettled};
+ghost use Rattle.pair_quotient.specs.inside.Refining.{AreListed, AreWaiting, IsAlone, IsSettled};
 
 use crate::blocks::Blocks;
 use ctl_form::Predecessors;
@@ -50,9 +50,11 @@ fn move_state(
     Ok(())
 }
 
-/// Unsettles each state that a move leads from to one of these.
+/// Unsettles each state that a move leads from to one of these. A state whose block's list has no other matches its whole block, and may
+/// stay settled.
 pub(crate) fn unsettle_before(
     predecessors: &Predecessors,
+    blocks: &Blocks,
     states: &[u64],
     settled: &mut [bool],
     waiting: &mut Vec<u64>,
@@ -61,19 +63,21 @@ pub(crate) fn unsettle_before(
     requires ends { (t : ℕ) → t < length predecessors.now.begins.items → slice_index predecessors.now.begins.items t ≤ length predecessors.now.sources.items }
     requires sources { All (λ t. (k : ℕ) → slice_index predecessors.now.begins.items t ≤ k → k < slice_index predecessors.now.begins.items (t + 1) → slice_index predecessors.now.sources.items k < length settled.old) states.now }
     requires waiting { AreWaiting (length settled.old) settled.old waiting.old.items }
+    requires listed { AreListed (length settled.old) blocks.now.classes.items blocks.now.members }
     ensures waiting { OnOk result (AreWaiting (length settled.old) settled.new waiting.new.items) }
     ensures fewer { (s : ℕ) → IsSettled settled.new s → IsSettled settled.old s }
-    ensures before { OnOk result (All (λ t. (k : ℕ) → slice_index predecessors.now.begins.items t ≤ k → k < slice_index predecessors.now.begins.items (t + 1) → IsSettled settled.new (slice_index predecessors.now.sources.items k) → ⊥) states.now) }
+    ensures before { OnOk result (All (λ t. (k : ℕ) → slice_index predecessors.now.begins.items t ≤ k → k < slice_index predecessors.now.begins.items (t + 1) → IsSettled settled.new (slice_index predecessors.now.sources.items k) → IsAlone blocks.now.classes.items (slice_index predecessors.now.sources.items k)) states.now) }
     ensures none { OnOk result (length states.now ≡ 0 → waiting.new.items ≡ waiting.old.items) }
 {
     for state in states {
-        unsettle_sources(predecessors, *state, settled, waiting)?;
+        unsettle_sources(predecessors, blocks, *state, settled, waiting)?;
     }
     Ok(())
 }
 
 fn unsettle_sources(
     predecessors: &Predecessors,
+    blocks: &Blocks,
     state: u64,
     settled: &mut [bool],
     waiting: &mut Vec<u64>,
@@ -82,31 +86,50 @@ fn unsettle_sources(
     requires ends { (t : ℕ) → t < length predecessors.now.begins.items → slice_index predecessors.now.begins.items t ≤ length predecessors.now.sources.items }
     requires sources { (k : ℕ) → slice_index predecessors.now.begins.items state ≤ k → k < slice_index predecessors.now.begins.items (state + 1) → slice_index predecessors.now.sources.items k < length settled.old }
     requires waiting { AreWaiting (length settled.old) settled.old waiting.old.items }
+    requires listed { AreListed (length settled.old) blocks.now.classes.items blocks.now.members }
     ensures waiting { OnOk result (AreWaiting (length settled.old) settled.new waiting.new.items) }
     ensures fewer { (s : ℕ) → IsSettled settled.new s → IsSettled settled.old s }
-    ensures before { OnOk result ((k : ℕ) → slice_index predecessors.now.begins.items state ≤ k → k < slice_index predecessors.now.begins.items (state + 1) → IsSettled settled.new (slice_index predecessors.now.sources.items k) → ⊥) }
+    ensures before { OnOk result ((k : ℕ) → slice_index predecessors.now.begins.items state ≤ k → k < slice_index predecessors.now.begins.items (state + 1) → IsSettled settled.new (slice_index predecessors.now.sources.items k) → IsAlone blocks.now.classes.items (slice_index predecessors.now.sources.items k)) }
 {
     let begin = predecessors.begins[state as usize];
     let end = predecessors.begins[state as usize + 1];
     for place in begin..end {
-        unsettle(settled, waiting, predecessors.sources[place])?;
+        unsettle(blocks, settled, waiting, predecessors.sources[place])?;
     }
     Ok(())
 }
 
-fn unsettle(settled: &mut [bool], waiting: &mut Vec<u64>, state: u64) -> Result<(), Memory>
+fn unsettle(
+    blocks: &Blocks,
+    settled: &mut [bool],
+    waiting: &mut Vec<u64>,
+    state: u64,
+) -> Result<(), Memory>
     requires state { state < length settled.old }
     requires waiting { AreWaiting (length settled.old) settled.old waiting.old.items }
+    requires listed { AreListed (length settled.old) blocks.now.classes.items blocks.now.members }
     ensures waiting { OnOk result (AreWaiting (length settled.old) settled.new waiting.new.items) }
     ensures fewer { (s : ℕ) → IsSettled settled.new s → IsSettled settled.old s }
-    ensures unsettled { OnOk result (IsSettled settled.new state → ⊥) }
+    ensures unsettled { OnOk result (IsSettled settled.new state → IsAlone blocks.now.classes.items state) }
 {
     if !settled[state as usize] {
+        return Ok(());
+    }
+    if is_alone(blocks, state) {
         return Ok(());
     }
     waiting.push(state)?;
     settled[state as usize] = false;
     Ok(())
+}
+
+fn is_alone(blocks: &Blocks, state: u64) -> bool
+    requires state { state < length blocks.now.classes.items }
+    requires listed { AreListed (length blocks.now.classes.items) blocks.now.classes.items blocks.now.members }
+    ensures { IsTrue result → IsAlone blocks.now.classes.items state }
+{
+    let block = blocks.classes[state as usize];
+    blocks.members.list(block).len() == 1
 }
 
 /// Settles each of the states.

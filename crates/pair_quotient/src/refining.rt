@@ -78,6 +78,6 @@ fn refine(
     let moved = move_states(alloc, blocks, waiting, &targets)?;
     settle(settled, waiting);
     let mut next = Vec::new(alloc);
-    unsettle_before(predecessors, &moved, settled, &mut next)?;
+    unsettle_before(predecessors, blocks, &moved, settled, &mut next)?;
     Ok(next)
 }

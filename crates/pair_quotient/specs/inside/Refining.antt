@@ -17,6 +17,15 @@ pub record AreBlocks (n : ℕ) (classes leaders : List ℕ) (members : List (Lis
   pub in_range : (b : ℕ) → All (λ s. s < n) (slice_index_or members b [])
   pub listed : (s : ℕ) → s < n → Contains (slice_index_or members (slice_index classes s) []) s
 
+-- no other state is in the block of s
+abbrev pub IsAlone : List ℕ → ℕ → Type 0
+IsAlone classes s = (t : ℕ) → t < length classes → slice_index classes t ≡ slice_index classes s → t ≡ s
+
+-- each of the n states has a block, and stands in its list
+pub record AreListed (n : ℕ) (classes : List ℕ) (members : List (List ℕ)) : Type 0 where
+  pub long : length classes ≡ n
+  pub listed : (s : ℕ) → s < n → Contains (slice_index_or members (slice_index classes s) []) s
+
 -- states that are not settled wait
 pub record AreWaiting (n : ℕ) (settled : List Bool) (waiting : List ℕ) : Type 0 where
   pub long : length settled ≡ n

@@ -3,7 +3,7 @@ use Rattle.std.proofs.lemmas.List.Elements.{All-contains}
 use Rattle.pair_quotient.specs.inside.Moving.{AreAgreed, HaveMoved}
 use Rattle.pair_quotient.specs.inside.Naming.{IsNameOf}
 use Rattle.pair_quotient.specs.inside.Partition.{IsPartition}
-use Rattle.pair_quotient.specs.inside.Refining.{AreBlocks, AreCalm, AreRefined, AreWaiting, IsElected, IsSettled}
+use Rattle.pair_quotient.specs.inside.Refining.{AreBlocks, AreCalm, AreRefined, AreWaiting, IsAlone, IsElected, IsSettled}
 use Rattle.pair_quotient.specs.inside.Splitting.{AreTargets}
 use Rattle.pair_quotient.proofs.RefineLaws.{AreAgreed-targets, HaveMoved-none, IsRound, refined, more, progress, targets_within}
 use Rattle.ctl_form.proofs.Moves.{reaches_within}
@@ -59,8 +59,8 @@ returns c =
       waits = subst (λ x. AreWaiting x c.unsettle_before.new.settled c.unsettle_before.new.waiting.items) kept c.in_ok-unsettle_before.ensures.waiting;
       unsettled = λ s t has reach is.
           let u = c.requires.predecessors.complete s t (reaches_within c.args.m.now c.requires.goes_on s t reach) reach in
-          let none = All-contains (λ x. (j : ℕ) → slice_index c.args.predecessors.now.begins.items x ≤ j → j < slice_index c.args.predecessors.now.begins.items (x + 1) → IsSettled c.unsettle_before.new.settled (slice_index c.args.predecessors.now.sources.items j) → ⊥) c.deref-8.result.now t c.in_ok-unsettle_before.ensures.before (subst (λ l. Contains l t) (sym c.deref-8.ensures.value) has) in
-          none u.0 u.1 u.2 (subst (IsSettled c.unsettle_before.new.settled) (sym u.3) is);
+          let none = All-contains (λ x. (j : ℕ) → slice_index c.args.predecessors.now.begins.items x ≤ j → j < slice_index c.args.predecessors.now.begins.items (x + 1) → IsSettled c.unsettle_before.new.settled (slice_index c.args.predecessors.now.sources.items j) → IsAlone c.move_states.new.blocks.classes.items (slice_index c.args.predecessors.now.sources.items j)) c.deref-8.result.now t c.in_ok-unsettle_before.ensures.before (subst (λ l. Contains l t) (sym c.deref-8.ensures.value) has) in
+          subst (IsAlone c.move_states.new.blocks.classes.items) u.3 (none u.0 u.1 u.2 (subst (IsSettled c.unsettle_before.new.settled) (sym u.3) is));
       none = λ e. c.in_ok-unsettle_before.ensures.none (ap length c.deref-8.ensures.value ∙ e) ∙ c.new-next.ensures.items;
     } in
     let leaders : c.name_states.new.leaders.items ≡ c.move_states.new.blocks.leaders.items = sym (c.in_ok-moved.ensures.leaders ∙ c.in_ok-open_lists.ensures.leaders) in
@@ -83,3 +83,10 @@ unsettle_before-requires-clause-sources c =
     let within : get_or c.in_ok-moved.moved.items j d < length c.open_lists.new.self.classes.items = (c.in_ok-moved.ensures.moved.listed_moved j d (rw c.deref-8.ensures.value at lt)).0 in
     let state : get_or c.deref-8.result.now j d < length c.args.m.now.states = let at = ap (λ l. get_or l j d) c.deref-8.ensures.value in omega (arith, within, long, at) in
     λ k low high. let w = sources_within c.args.m.now c.requires.goes_on c.args.predecessors.now.begins.items c.args.predecessors.now.sources.items c.requires.predecessors (get_or c.deref-8.result.now j d) state k low high in omega (arith, w, kept)
+
+pub unsettle_before-requires-clause-listed : goal.unsettle_before-requires-clause-listed
+unsettle_before-requires-clause-listed c =
+    let moved = c.in_ok-moved.ensures.moved in
+    let start : length c.open_lists.new.self.classes.items ≡ length c.args.settled.now = ap length c.in_ok-open_lists.ensures.classes ∙ c.elect_each.ensures.blocks.long in
+    let kept : length c.settle.new.settled ≡ length c.args.settled.now = omega (arith, c.settle.auto.settled) in
+    record { long = moved.long ∙ start ∙ sym kept; listed = λ s lt. moved.listed s (omega (arith, lt, start, kept)) }
