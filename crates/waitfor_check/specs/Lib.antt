@@ -1,0 +1,11 @@
+pub mod Accepted
+pub mod Choices
+pub mod Closed
+pub mod Fitting
+pub mod Laws
+pub mod Parts
+pub mod Star
+pub mod Steps
+pub mod Verdicts
+pub mod Waits
+pub mod inside
