@@ -1,0 +1,13 @@
+pub mod Heads
+pub mod ItemLaws
+pub mod Judged
+pub mod Kept
+pub mod KeySets
+pub mod LabelLists
+pub mod OneText
+pub mod Prefix
+pub mod ShapeBars
+pub mod Stable
+pub mod Suffixes
+pub mod TextLaws
+pub mod WordLists
