@@ -12,8 +12,8 @@ use Rattle.conjunctive_compose.specs.System.{SystemParts}
 use Rattle.firing_journal.specs.declared.journal.Entry.{Entry}
 use Rattle.firing_journal.specs.Journal.{EntryFits}
 use Rattle.firing_journal.specs.Said.{Said, Says, head_line, entry_line, done_line, words_for}
-use Rattle.firing_journal.specs.Place.{Place, MayStand, after, before_head, among_entries}
-use Rattle.firing_journal.specs.Cause.{IsUnknown, MaySay, LacksHead, Blocks, ReadStands, IsRead, Stands, Takes}
+use Rattle.firing_journal.specs.Place.{Place, MayStand, after_line, before_head, among_entries}
+use Rattle.firing_journal.specs.Cause.{IsUnknown, MaySay, LacksHead, BarsLine, ReadStands, IsRead, Stands, Takes}
 use Rattle.firing_journal.specs.inside.View.{IsKnown, place_after, wish_of_numbers}
 use Rattle.firing_journal.proofs.Words.{bytes_of_words, says_head, says_once}
 
@@ -24,7 +24,7 @@ says_one : (place : Place) (line : Line) (x y : Said) → MaySay place line x �
 says_one place line x y a b = says_once line x y a.says b.says
 
 pub line_not_text : (sys : SystemParts) (place : Place) (line : Line) → (IsStrict line.bytes → ⊥) → IsLowest (ReadStands sys place line) NotText
-line_not_text sys place line bad = not_text_lowest (NotStrict line) (LacksHead place line) (MaySay place line) (Blocks sys) bad
+line_not_text sys place line bad = not_text_lowest (NotStrict line) (LacksHead place line) (MaySay place line) (BarsLine sys) bad
 
 head_alone : (said : Said) → MayStand before_head said → said ≡ head_line
 head_alone head_line may = refl
@@ -36,16 +36,16 @@ not_head line other is = other (bytes_of_words line.bytes (words_for head_line) 
 
 pub head_wrong : (sys : SystemParts) (line : Line) → IsStrict line.bytes → (line.bytes ≡ codes "journal 1" → ⊥) → IsLowest (Stands sys before_head line) BadHead
 head_wrong sys line strict other =
-    bad_head_lowest (NotStrict line) (LacksHead before_head line) (MaySay before_head line) (Blocks sys) (λ bad. bad strict) (λ said may. not_head line other (subst (λ x. words_of line.bytes ≡ words_for x) (head_alone said may.may) may.says.words.words_are)) (refl, not_head line other)
+    bad_head_lowest (NotStrict line) (LacksHead before_head line) (MaySay before_head line) (BarsLine sys) (λ bad. bad strict) (λ said may. not_head line other (subst (λ x. words_of line.bytes ≡ words_for x) (head_alone said may.may) may.says.words.words_are)) (refl, not_head line other)
 
 pub head_not_ended : (sys : SystemParts) (line : Line) → IsStrict line.bytes → line.bytes ≡ codes "journal 1" → (line.is_ended ≡ true → ⊥) → IsLowest (Stands sys before_head line) BadLine
 head_not_ended sys line strict is open' =
-    bad_line_lowest (NotStrict line) (LacksHead before_head line) (MaySay before_head line) (Blocks sys) (λ bad. bad strict) (λ no. no.1 (says_head line.bytes is).words_are) (λ said may. open' may.says.ended)
+    bad_line_lowest (NotStrict line) (LacksHead before_head line) (MaySay before_head line) (BarsLine sys) (λ bad. bad strict) (λ no. no.1 (says_head line.bytes is).words_are) (λ said may. open' may.says.ended)
 
 -- the line says what may stand there, and nothing in it is unknown
-read_taken : (sys : SystemParts) (place : Place) (line : Line) (said : Said) → IsStrict line.bytes → (LacksHead place line → ⊥) → MaySay place line said → (IsUnknown sys said → ⊥) → IsRead sys place line (after place said)
+read_taken : (sys : SystemParts) (place : Place) (line : Line) (said : Said) → IsStrict line.bytes → (LacksHead place line → ⊥) → MaySay place line said → (IsUnknown sys said → ⊥) → IsRead sys place line (after_line place said)
 read_taken sys place line said strict has may known = record {
-  free = line_free (NotStrict line) (LacksHead place line) (MaySay place line) (Blocks sys) (says_one place line) said may (λ bad. bad strict) has (row_free UnknownName (IsUnknown sys said) known);
+  free = line_free (NotStrict line) (LacksHead place line) (MaySay place line) (BarsLine sys) (says_one place line) said may (λ bad. bad strict) has (row_free UnknownName (IsUnknown sys said) known);
   said = said;
   leaves = record { may = may; next_is = refl };
 }
@@ -59,20 +59,20 @@ has_head : (entries : List Entry) (line : Line) → LacksHead (among_entries ent
 has_head entries line lacks = let is = lacks.0 in cc
 
 pub nothing_said : (sys : SystemParts) (entries : List Entry) (line : Line) → IsStrict line.bytes → ((said : Said) → Says line said → ⊥) → IsLowest (Stands sys (among_entries entries) line) BadLine
-nothing_said sys entries line strict none = bad_line_lowest (NotStrict line) (LacksHead (among_entries entries) line) (MaySay (among_entries entries) line) (Blocks sys) (λ bad. bad strict) (has_head entries line) (λ said may. none said may.says)
+nothing_said sys entries line strict none = bad_line_lowest (NotStrict line) (LacksHead (among_entries entries) line) (MaySay (among_entries entries) line) (BarsLine sys) (λ bad. bad strict) (has_head entries line) (λ said may. none said may.says)
 
 -- the line says what may not stand there
 pub misplaced_is_bad_line : (sys : SystemParts) (entries : List Entry) (line : Line) (said : Said) → IsStrict line.bytes → Says line said → (MayStand (among_entries entries) said → ⊥) → IsLowest (Stands sys (among_entries entries) line) BadLine
 misplaced_is_bad_line sys entries line said strict says not =
-    bad_line_lowest (NotStrict line) (LacksHead (among_entries entries) line) (MaySay (among_entries entries) line) (Blocks sys) (λ bad. bad strict) (has_head entries line) (λ other may. not (subst (MayStand (among_entries entries)) (says_once line other said may.says says) may.may))
+    bad_line_lowest (NotStrict line) (LacksHead (among_entries entries) line) (MaySay (among_entries entries) line) (BarsLine sys) (λ bad. bad strict) (has_head entries line) (λ other may. not (subst (MayStand (among_entries entries)) (says_once line other said may.says says) may.may))
 
 -- the line says an entry that may stand there, but not for this system
 pub unknown_is_lowest : (sys : SystemParts) (entries : List Entry) (line : Line) (entry : Entry) → IsStrict line.bytes → Says line (entry_line entry) → entry.number ≡ length entries → (EntryFits sys entry → ⊥) → IsLowest (Stands sys (among_entries entries) line) UnknownName
 unknown_is_lowest sys entries line entry strict says place not =
     let may : MaySay (among_entries entries) line (entry_line entry) = record { says = says; may = place } in
-    blocked_lowest (NotStrict line) (LacksHead (among_entries entries) line) (MaySay (among_entries entries) line) (Blocks sys) (says_one (among_entries entries) line) (entry_line entry) may (λ bad. bad strict) (has_head entries line) UnknownName (row_lowest UnknownName (IsUnknown sys (entry_line entry)) not)
+    blocked_lowest (NotStrict line) (LacksHead (among_entries entries) line) (MaySay (among_entries entries) line) (BarsLine sys) (says_one (among_entries entries) line) (entry_line entry) may (λ bad. bad strict) (has_head entries line) UnknownName (row_lowest UnknownName (IsUnknown sys (entry_line entry)) not)
 
-pub known_is_taken : (sys : SystemParts) (entries : List Entry) (line : Line) (said : Said) → IsStrict line.bytes → Says line said → MayStand (among_entries entries) said → (IsUnknown sys said → ⊥) → Takes sys (among_entries entries) line (after (among_entries entries) said)
+pub known_is_taken : (sys : SystemParts) (entries : List Entry) (line : Line) (said : Said) → IsStrict line.bytes → Says line said → MayStand (among_entries entries) said → (IsUnknown sys said → ⊥) → Takes sys (among_entries entries) line (after_line (among_entries entries) said)
 known_is_taken sys entries line said strict says stands known = read_taken sys (among_entries entries) line said strict (has_head entries line) (record { says = says; may = stands }) known
 
 pub done_taken : (sys : SystemParts) (entries : List Entry) (line : Line) → IsStrict line.bytes → Says line done_line → Takes sys (among_entries entries) line (place_after entries None)

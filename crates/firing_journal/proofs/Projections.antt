@@ -9,7 +9,7 @@ use Rattle.conjunctive_compose.specs.declared.wish.StepAnswer.TheVariants.{Moved
 use Rattle.conjunctive_compose.specs.System.{SystemParts, edge_at, side_on}
 use Rattle.conjunctive_compose.specs.Whole.{WholeParts, IsProper, start_of}
 use Rattle.conjunctive_compose.specs.Firing.{IsAnswer, Moves, fired}
-use Rattle.conjunctive_compose.specs.Run.{IsRun, after}
+use Rattle.conjunctive_compose.specs.Run.{IsRun, whole_after}
 use Rattle.conjunctive_compose.specs.Reply.{after_first}
 use Rattle.conjunctive_compose.specs.Projection.{Begins, IsProjection}
 use Rattle.firing_journal.specs.declared.journal.Entry.{Entry}
@@ -17,7 +17,7 @@ use Rattle.firing_journal.specs.Journal.{wishes_of}
 use Rattle.firing_journal.proofs.Replays.{after_more, length-wishes, wish_there}
 
 -- each wish of a run moves in what the ones before it leave
-pub moves_at : (sys : SystemParts) (w : WholeParts) (run : List Wish) (i : ℕ) (d : Wish) → i < length run → IsRun sys w run → Moves sys (after sys w (take i run)) (get_or run i d)
+pub moves_at : (sys : SystemParts) (w : WholeParts) (run : List Wish) (i : ℕ) (d : Wish) → i < length run → IsRun sys w run → Moves sys (whole_after sys w (take i run)) (get_or run i d)
 moves_at sys w [] i d lt is = absurd (omega arith)
 moves_at sys w (x ∷ run) zero d lt is = is.0
 moves_at sys w (x ∷ run) (suc i) d lt is = moves_at sys (fired sys w x) run i d (omega arith) is.1
@@ -34,7 +34,7 @@ begins_more sys w e (Some side) moves later more (s, pair, is) = (s, pair, ap (�
 
 -- one more wish at the end
 pub projection_grows : (sys : SystemParts) (w : WholeParts) (e : ℕ) (run : List Wish) (wish : Wish) (moves more : List PairMove) → IsProjection sys w e run moves
-    → Begins sys (fired sys (after sys w run) wish) e (side_on (edge_at sys e) wish.process) more [] → IsProjection sys w e (run ++ wish ∷ []) (moves ++ more)
+    → Begins sys (fired sys (whole_after sys w run) wish) e (side_on (edge_at sys e) wish.process) more [] → IsProjection sys w e (run ++ wish ∷ []) (moves ++ more)
 projection_grows sys w e [] wish moves more is begins = ([], rw is begins, refl)
 projection_grows sys w e (x ∷ run) wish moves more (later, first, is) begins = (later ++ more, begins_more sys (fired sys w x) e (side_on (edge_at sys e) x.process) moves later more first, projection_grows sys (fired sys w x) e run wish later more is begins)
 

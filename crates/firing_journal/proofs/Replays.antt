@@ -12,14 +12,14 @@ use Rattle.conjunctive_compose.specs.declared.wish.StepAnswer.TheVariants.{Moved
 use Rattle.conjunctive_compose.specs.System.{SystemParts, process_count}
 use Rattle.conjunctive_compose.specs.Whole.{WholeParts, IsProper, start_of}
 use Rattle.conjunctive_compose.specs.Firing.{IsAnswer, Moves, fired}
-use Rattle.conjunctive_compose.specs.Run.{IsRun, after}
+use Rattle.conjunctive_compose.specs.Run.{IsRun, whole_after}
 use Rattle.conjunctive_compose.specs.Reply.{after_first, count_of}
 use Rattle.conjunctive_compose.proofs.Runs.{run_grows}
 use Rattle.firing_journal.specs.declared.journal.Entry.{Entry}
 use Rattle.firing_journal.specs.Journal.{wish_of, wishes_of}
 use Rattle.firing_journal.specs.Replay.{IsFirstStuck, LeavesWhole, moves_among, no_wish, wish_at}
 
-pub after-append : (sys : SystemParts) (w : WholeParts) (run : List Wish) (wish : Wish) → after sys w (run ++ wish ∷ []) ≡ fired sys (after sys w run) wish
+pub after-append : (sys : SystemParts) (w : WholeParts) (run : List Wish) (wish : Wish) → whole_after sys w (run ++ wish ∷ []) ≡ fired sys (whole_after sys w run) wish
 after-append sys w [] wish = refl
 after-append sys w (x ∷ run) wish = after-append sys (fired sys w x) run wish
 
@@ -106,7 +106,7 @@ first_stuck sys run i w v moves answer lt so other is =
 pub leaves_whole : (sys : SystemParts) (run : List Wish) (w : WholeParts) (moves : List ℕ) (i : ℕ) → i ≡ length run → FiredUpTo sys run i w moves → LeavesWhole sys run w moves
 leaves_whole sys run w moves i all so = record {
   is_run = subst (IsRun sys (start_of sys)) (take_all i run (omega (arith, all))) so.is_run;
-  whole = so.whole ∙ ap (after sys (start_of sys)) (take_all i run (omega (arith, all)));
+  whole = so.whole ∙ ap (whole_after sys (start_of sys)) (take_all i run (omega (arith, all)));
   each = so.each ∙ ap (λ (n : ℕ). moves_among sys run n) all;
 }
 

@@ -16,13 +16,13 @@ use Rattle.conjunctive_compose.specs.System.{SystemParts}
 use Rattle.firing_journal.specs.declared.journal.Entry.{Entry}
 use Rattle.firing_journal.specs.Journal.{EntryFits, JournalFits}
 use Rattle.firing_journal.specs.inside.View.{IsFitting, grown, place_after}
-use Rattle.firing_journal.specs.Place.{Place, after, before_head, among_entries, after_done}
-use Rattle.firing_journal.specs.Cause.{Blocks, IsRead, IsUnknown, LacksHead, MaySay, ReadStands, Stands, Takes}
+use Rattle.firing_journal.specs.Place.{Place, after_line, before_head, among_entries, after_done}
+use Rattle.firing_journal.specs.Cause.{BarsLine, IsRead, IsUnknown, LacksHead, MaySay, ReadStands, Stands, Takes}
 use Rattle.firing_journal.specs.Text.{EndStands, Gives, journals}
 use Rattle.firing_journal.proofs.Words.{says_once}
 
 read_once : (sys : SystemParts) (place : Place) (line : Line) (s t : Place) → IsRead sys place line s → IsRead sys place line t → s ≡ t
-read_once sys place line s t a b = a.leaves.next_is ∙ ap (after place) (says_once line a.said b.said a.leaves.may.says b.leaves.may.says) ∙ sym b.leaves.next_is
+read_once sys place line s t a b = a.leaves.next_is ∙ ap (after_line place) (says_once line a.said b.said a.leaves.may.says b.leaves.may.says) ∙ sym b.leaves.next_is
 
 takes_once : (sys : SystemParts) (place : Place) (line : Line) (s t : Place) → Takes sys place line s → Takes sys place line t → s ≡ t
 takes_once sys before_head line s t a b = read_once sys before_head line s t a b
@@ -51,7 +51,7 @@ ends_once (after_done entries) c d a b = absurd a
 
 read_refused_once : (sys : SystemParts) (place : Place) (line : Line) (c d : TextCause) → IsLowest (ReadStands sys place line) c → IsLowest (ReadStands sys place line) d → c ≡ d
 read_refused_once sys place line c d a b =
-    line_once (IsStrict line.bytes → ⊥) (LacksHead place line) (MaySay place line) (Blocks sys) (λ x y p q. says_once line x y p.says q.says) (λ said. from_row 5 UnknownName (IsUnknown sys said) (omega arith)) (λ said. one_each_row UnknownName (IsUnknown sys said)) c d a b
+    line_once (IsStrict line.bytes → ⊥) (LacksHead place line) (MaySay place line) (BarsLine sys) (λ x y p q. says_once line x y p.says q.says) (λ said. from_row 5 UnknownName (IsUnknown sys said) (omega arith)) (λ said. one_each_row UnknownName (IsUnknown sys said)) c d a b
 
 refused_once : (sys : SystemParts) (place : Place) (line : Line) (c d : TextCause) → IsLowest (Stands sys place line) c → IsLowest (Stands sys place line) d → c ≡ d
 refused_once sys before_head line c d a b = read_refused_once sys before_head line c d a b

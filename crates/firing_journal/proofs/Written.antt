@@ -15,7 +15,7 @@ use Rattle.firing_journal.specs.declared.journal.Entry.{Entry}
 use Rattle.firing_journal.specs.Journal.{EntryFits, JournalFits}
 use Rattle.firing_journal.specs.JournalText.{ReadBack, entry_text, journal_text, said_text}
 use Rattle.firing_journal.specs.Said.{Said, HasNumbers, HasSmallNumbers, Says, head_line, entry_line, done_line, words_for}
-use Rattle.firing_journal.specs.Place.{MayStand, among_entries, after, after_done, before_head}
+use Rattle.firing_journal.specs.Place.{MayStand, among_entries, after_line, after_done, before_head}
 use Rattle.firing_journal.specs.Cause.{IsUnknown, Takes}
 use Rattle.firing_journal.specs.Text.{journals}
 use Rattle.firing_journal.proofs.Judged.{head_taken, known_is_taken}
@@ -55,7 +55,7 @@ strict_written : (said : Said) → HasNumbers said → IsStrict (written said).b
 unfolding written
 strict_written said small = strict_words (words_for said) (words_are said small)
 
-takes_written : (sys : SystemParts) (before : List Entry) (said : Said) → HasNumbers said → MayStand (among_entries before) said → (IsUnknown sys said → ⊥) → Takes sys (among_entries before) (written said) (after (among_entries before) said)
+takes_written : (sys : SystemParts) (before : List Entry) (said : Said) → HasNumbers said → MayStand (among_entries before) said → (IsUnknown sys said → ⊥) → Takes sys (among_entries before) (written said) (after_line (among_entries before) said)
 takes_written sys before said small may known = known_is_taken sys before (written said) said (strict_written said small) (says_written said small) may known
 
 -- numbered from n

@@ -8,7 +8,7 @@ use Rattle.strict_text.specs.Lines.{Line, IsStrict}
 use Rattle.strict_text.specs.Words.{words_of}
 use Rattle.firing_journal.specs.Journal.{EntryFits}
 use Rattle.firing_journal.specs.Said.{Said, Says, head_line, entry_line, done_line, words_for}
-use Rattle.firing_journal.specs.Place.{Place, MayStand, after, before_head, among_entries, after_done}
+use Rattle.firing_journal.specs.Place.{Place, MayStand, after_line, before_head, among_entries, after_done}
 
 -- the line says something that may stand there
 pub record MaySay (place : Place) (line : Line) (said : Said) : Type 0 where
@@ -22,15 +22,15 @@ IsUnknown sys (entry_line entry) = EntryFits sys entry → ⊥
 IsUnknown sys done_line = ⊥
 
 -- what stands against a line that may stand there
-abbrev pub Blocks : SystemParts → Said → TextCause → Type 0
-Blocks sys said cause = Row UnknownName (IsUnknown sys said) cause
+abbrev pub BarsLine : SystemParts → Said → TextCause → Type 0
+BarsLine sys said cause = Row UnknownName (IsUnknown sys said) cause
 
 abbrev pub LacksHead : Place → Line → Type 0
 LacksHead place line = (place ≡ before_head) × (words_of line.bytes ≢ words_for head_line)
 
 -- what stands against a line that is read there
 abbrev pub ReadStands : SystemParts → Place → Line → TextCause → Type 0
-ReadStands sys place line = LineStands (IsStrict line.bytes → ⊥) (LacksHead place line) (MaySay place line) (Blocks sys)
+ReadStands sys place line = LineStands (IsStrict line.bytes → ⊥) (LacksHead place line) (MaySay place line) (BarsLine sys)
 
 -- what stands against a line there: below `done`, nothing
 abbrev pub Stands : SystemParts → Place → Line → TextCause → Type 0
@@ -41,7 +41,7 @@ Stands sys (after_done entries) line cause = ⊥
 -- the line says what leaves the text there
 pub record Leaves (place : Place) (line : Line) (said : Said) (next : Place) : Type 0 where
   pub may : MaySay place line said
-  pub next_is : next ≡ after place said
+  pub next_is : next ≡ after_line place said
 
 -- nothing stands against the line, and it leaves the text there
 pub record IsRead (sys : SystemParts) (place : Place) (line : Line) (next : Place) : Type 0 where

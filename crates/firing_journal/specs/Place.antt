@@ -17,8 +17,8 @@ MayStand (among_entries entries) done_line = Unit {0}
 MayStand place said = ⊥
 
 -- where a line that may stand there leaves the text
-abbrev pub after : Place → Said → Place
-after before_head head_line = among_entries []
-after (among_entries entries) (entry_line entry) = among_entries (entries ++ entry ∷ [])
-after (among_entries entries) done_line = after_done entries
-after place said = place
+abbrev pub after_line : Place → Said → Place
+after_line before_head head_line = among_entries []
+after_line (among_entries entries) (entry_line entry) = among_entries (entries ++ entry ∷ [])
+after_line (among_entries entries) done_line = after_done entries
+after_line place said = place

@@ -6,7 +6,7 @@ use Rattle.conjunctive_compose.specs.declared.wish.StepAnswer.{StepAnswer}
 use Rattle.conjunctive_compose.specs.System.{SystemParts, process_count}
 use Rattle.conjunctive_compose.specs.Whole.{WholeParts, start_of}
 use Rattle.conjunctive_compose.specs.Firing.{IsAnswer, Moves}
-use Rattle.conjunctive_compose.specs.Run.{IsRun, after}
+use Rattle.conjunctive_compose.specs.Run.{IsRun, whole_after}
 use Rattle.conjunctive_compose.specs.Reply.{after_first, count_of}
 use Rattle.firing_journal.specs.declared.outcome.Replay.{Replay}
 use Rattle.firing_journal.specs.declared.outcome.Replay.TheVariants.{Run, NotARun}
@@ -24,7 +24,7 @@ moves_among sys run n = map (λ k. count_of run k n) (range_with_len 0 (process_
 -- the wishes are a run that leaves this whole state, in which each process fires so often
 pub record LeavesWhole (sys : SystemParts) (run : List Wish) (w : WholeParts) (moves : List ℕ) : Type 0 where
   pub is_run : IsRun sys (start_of sys) run
-  pub whole : w ≡ after sys (start_of sys) run
+  pub whole : w ≡ whole_after sys (start_of sys) run
   pub each : moves ≡ moves_among sys run (length run)
 
 -- the wishes before this one are a run, and this one does not move after them, for this reason

@@ -2,16 +2,14 @@
 use Rattle.std.proofs.Common.{ℕ, ◌<◌, inl, inr, List, length, subst}
 use Rattle.pair_structure.specs.Structure.{Structure}
 use Rattle.conjunctive_compose.specs.System.{SystemParts}
-use Rattle.firing_journal.specs.declared.journal.Entry.{Entry}
-use Rattle.firing_journal.specs.Journal.{wishes_of}
 use Rattle.ctl_text.specs.Value.{SpecParts}
 use Rattle.skeleton_tool.specs.declared.status.Status.{Status}
 use Rattle.skeleton_tool.specs.declared.stop.Stop.{Stop}
 use Rattle.skeleton_tool.specs.declared.stop.Stop.TheVariants.{Answered, Memory}
 use Rattle.skeleton_tool.specs.Answer.{AnswersBoth, NotRead, spec_grammar, solution_grammar}
-use Rattle.skeleton_tool.specs.Reading.{IsRead, IsUnread, ReadsAndAnswers}
-use Rattle.skeleton_tool.specs.Replay.{AnswersJournal, IsSystemOf, Replays, journal_grammar}
+use Rattle.skeleton_tool.specs.Reading.{Grammar, IsRead, IsUnread, ReadsAndAnswers}
 use Rattle.skeleton_tool.specs.Taking.{Files, KeepsShelf, ShelfSeen, StopsAs, shelf_seen}
+use Rattle.skeleton_tool.specs.Third.{AnswersThird, AnswersValue, IsSystemOf}
 use Rattle.skeleton_tool.proofs.Stopped.{stops_behind, stops_since}
 
 -- where no solution is taken behind a specification, one of the two is not read
@@ -30,25 +28,26 @@ pub stops_both : (answers : SpecParts → List Structure → Status → List ℕ
 stops_both answers shelf spec sol text Memory h = tt
 stops_both answers shelf spec sol text (Answered status) h = (not_read answers shelf spec sol status text h.0, h.1)
 
-unread_journal : (shelf : ShelfSeen) (v : SpecParts) (structures : List Structure) (sys : SystemParts) (journal text : List ℕ) (stop : Stop) → IsSystemOf v structures sys → StopsAs (IsUnread (journal_grammar sys) shelf journal) text stop → StopsAs (AnswersJournal shelf journal v structures) text stop
-unread_journal shelf v structures sys journal text Memory system h = tt
-unread_journal shelf v structures sys journal text (Answered status) system h = ((sys, system, inl h.0), h.1)
+module _ {V : Type 0} (grammar : SpecParts → SystemParts → Grammar V) (answers : AnswersValue V) where
+  unread_third : (shelf : ShelfSeen) (v : SpecParts) (structures : List Structure) (sys : SystemParts) (file text : List ℕ) (stop : Stop) → IsSystemOf v structures sys → StopsAs (IsUnread (grammar v sys) shelf file) text stop → StopsAs (AnswersThird grammar answers shelf file v structures) text stop
+  unread_third shelf v structures sys file text Memory system h = tt
+  unread_third shelf v structures sys file text (Answered status) system h = ((sys, system, inl h.0), h.1)
 
--- where no journal is taken behind a specification and a solution, that is the answer
-pub stops_at_journal : {A : Type 0} (files : A → Files) (faults longs : A → ℕ) (may_ask : A → List ℕ → ℕ → Type 0) (old mid new : A) (v : SpecParts) (structures : List Structure) (sys : SystemParts) (spec sol journal text : List ℕ) (stop : Stop)
-    → IsRead spec_grammar (files old) spec v → IsRead (solution_grammar v) (files old) sol structures → IsSystemOf v structures sys → KeepsShelf files faults longs may_ask old mid → StopsAs (IsUnread (journal_grammar sys) (shelf_seen files faults longs mid new) journal) text stop
-    → StopsAs (AnswersBoth (AnswersJournal (shelf_seen files faults longs old new) journal) (shelf_seen files faults longs old new) spec sol) text stop
-stops_at_journal files faults longs may_ask old mid new v structures sys spec sol journal text stop read sol_read system kept h =
-    let shelf : ShelfSeen = shelf_seen files faults longs old new in
-    let unread = stops_since (journal_grammar sys) files faults longs may_ask old mid new journal text stop kept h in
-    let behind = unread_journal shelf v structures sys journal text stop system unread in
-    let both = stops_behind (solution_grammar v) (AnswersJournal shelf journal v) shelf sol structures text stop sol_read behind in
-    stops_behind spec_grammar (λ v. ReadsAndAnswers (solution_grammar v) (AnswersJournal shelf journal v) shelf sol) shelf spec v text stop read both
+  -- where no third file is taken behind a specification and a solution, that is the answer
+  pub stops_at_third : {A : Type 0} (files : A → Files) (faults longs : A → ℕ) (may_ask : A → List ℕ → ℕ → Type 0) (old mid new : A) (v : SpecParts) (structures : List Structure) (sys : SystemParts) (spec sol file text : List ℕ) (stop : Stop)
+      → IsRead spec_grammar (files old) spec v → IsRead (solution_grammar v) (files old) sol structures → IsSystemOf v structures sys → KeepsShelf files faults longs may_ask old mid → StopsAs (IsUnread (grammar v sys) (shelf_seen files faults longs mid new) file) text stop
+      → StopsAs (AnswersBoth (AnswersThird grammar answers (shelf_seen files faults longs old new) file) (shelf_seen files faults longs old new) spec sol) text stop
+  stops_at_third files faults longs may_ask old mid new v structures sys spec sol file text stop read sol_read system kept h =
+      let shelf : ShelfSeen = shelf_seen files faults longs old new in
+      let unread = stops_since (grammar v sys) files faults longs may_ask old mid new file text stop kept h in
+      let behind = unread_third shelf v structures sys file text stop system unread in
+      let both = stops_behind (solution_grammar v) (AnswersThird grammar answers shelf file v) shelf sol structures text stop sol_read behind in
+      stops_behind spec_grammar (λ v. ReadsAndAnswers (solution_grammar v) (AnswersThird grammar answers shelf file v) shelf sol) shelf spec v text stop read both
 
--- where all three are read, what the journal is answered is the answer
-pub ends_replay : {A : Type 0} (files : A → Files) (faults longs : A → ℕ) (may_ask : A → List ℕ → ℕ → Type 0) (old mid new : A) (v : SpecParts) (structures : List Structure) (sys : SystemParts) (entries : List Entry) (spec sol journal text : List ℕ) (status : Status)
-    → IsRead spec_grammar (files old) spec v → IsRead (solution_grammar v) (files old) sol structures → IsSystemOf v structures sys → KeepsShelf files faults longs may_ask old mid → IsRead (journal_grammar sys) (files mid) journal entries
-    → Replays v structures sys (wishes_of entries) status text → 0 < length text → AnswersBoth (AnswersJournal (shelf_seen files faults longs old new) journal) (shelf_seen files faults longs old new) spec sol status text × (0 < length text)
-ends_replay files faults longs may_ask old mid new v structures sys entries spec sol journal text status read sol_read system kept journal_read replays some =
-    let here : IsRead (journal_grammar sys) (files old) journal entries = subst (λ (all : Files). IsRead (journal_grammar sys) all journal entries) kept.same_files journal_read in
-    (inr (v, read, inr (structures, sol_read, (sys, system, inr (entries, here, replays)))), some)
+  -- where all three are read, what the third is answered is the answer
+  pub ends_third : {A : Type 0} (files : A → Files) (faults longs : A → ℕ) (may_ask : A → List ℕ → ℕ → Type 0) (old mid new : A) (v : SpecParts) (structures : List Structure) (sys : SystemParts) (value : V) (spec sol file text : List ℕ) (status : Status)
+      → IsRead spec_grammar (files old) spec v → IsRead (solution_grammar v) (files old) sol structures → IsSystemOf v structures sys → KeepsShelf files faults longs may_ask old mid → IsRead (grammar v sys) (files mid) file value
+      → answers v structures sys value status text → 0 < length text → AnswersBoth (AnswersThird grammar answers (shelf_seen files faults longs old new) file) (shelf_seen files faults longs old new) spec sol status text × (0 < length text)
+  ends_third files faults longs may_ask old mid new v structures sys value spec sol file text status read sol_read system kept file_read is some =
+      let here : IsRead (grammar v sys) (files old) file value = subst (λ (all : Files). IsRead (grammar v sys) all file value) kept.same_files file_read in
+      (inr (v, read, inr (structures, sol_read, (sys, system, inr (value, here, is)))), some)

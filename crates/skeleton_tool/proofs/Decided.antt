@@ -7,16 +7,26 @@ use Rattle.firing_journal.specs.declared.journal.Entry.{Entry}
 use Rattle.firing_journal.specs.Journal.{wishes_of}
 use Rattle.ctl_form.specs.Kind.{Solves}
 use Rattle.ctl_text.specs.Value.{SpecParts}
+use Rattle.waitfor_check.specs.declared.star.Star.{Star}
+use Rattle.waitfor_check.specs.declared.verdict.Verdict.{Verdict}
+use Rattle.waitfor_check.specs.declared.verdict.Verdict.TheVariants.{Accepted, NoPeelAtStart, ShapeMissing, StartMissing, NotClosed, Waits}
+use Rattle.waitfor_check.specs.Accepted.{IsAccepted}
+use Rattle.waitfor_check.specs.Fitting.{Fits}
+use Rattle.waitfor_check.specs.Verdicts.{IsVerdict}
+use Rattle.waitfor_check.proofs.OneVerdict.{one_verdict}
 use Rattle.skeleton_tool.specs.declared.status.Status.{Status}
 use Rattle.skeleton_tool.specs.declared.status.Status.TheVariants.{Done, Usage, Refused, Unsatisfiable, Fails, ReadFault, WriteFault, OutOfMemory}
 use Rattle.skeleton_tool.specs.Answer.{SinkSeen, AnswersBoth, AnswersKinds, AnswersCommand, IsOutcome, IsPlanned, Proves, spec_grammar, solution_grammar}
-use Rattle.skeleton_tool.specs.Command.{Command, synth, prove, skel, replay}
-use Rattle.skeleton_tool.specs.Complete.{Decides, IsUnhindered, DecidesSpec, DecidesSynth, DecidesSolution, DecidesProve, DecidesSkel, DecidesRun, DecidesReplay}
+use Rattle.skeleton_tool.specs.Check.{AnswersCertificate, Checks, TellsVerdict, certificate_grammar, verdict_status}
+use Rattle.skeleton_tool.specs.Command.{Command, synth, prove, skel, check, replay, migrate}
+use Rattle.skeleton_tool.specs.Complete.{Decides, IsUnhindered, DecidesSpec, DecidesSynth, DecidesSolution, DecidesProve, DecidesSkel, DecidesStars, DecidesCheck, DecidesRun, DecidesReplay, DecidesMigrate}
+use Rattle.skeleton_tool.specs.Migrate.{Migrates}
 use Rattle.skeleton_tool.specs.Reading.{Grammar, IsTold, IsUnread, ReadsAndAnswers}
-use Rattle.skeleton_tool.specs.Replay.{AnswersJournal, IsSystemOf, Replays, ReplaysWishes, journal_grammar}
+use Rattle.skeleton_tool.specs.Replay.{AnswersJournal, Replays, ReplaysJournal, ReplaysWishes, journal_grammar}
 use Rattle.skeleton_tool.specs.Skel.{Skels}
 use Rattle.skeleton_tool.specs.Status.{code_of}
 use Rattle.skeleton_tool.specs.Taking.{ShelfSeen, IsUntaken}
+use Rattle.skeleton_tool.specs.Third.{AnswersThird, AnswersValue, IsSystemOf}
 use Rattle.skeleton_tool.proofs.OneSystem.{one_system}
 use Rattle.skeleton_tool.proofs.Solved.{never_fails}
 use Rattle.skeleton_tool.proofs.Told.{answers_command, both_told, never_bad, reads_told}
@@ -116,23 +126,63 @@ decides_run : (v : SpecParts) (structures : List Structure) (sys : SystemParts) 
 decides_run v structures sys run status text solves (inl h) = decides_wishes sys run status text h.1
 decides_run v structures sys run status text solves (inr h) = absurd (never_fails v.roles v.kinds structures h.1.0 solves h.1.1)
 
-decides_journal : (words : List (List ℕ)) (shelf : ShelfSeen) (sink : SinkSeen) (command : Command) (files : List (List ℕ × List ℕ)) (journal : List ℕ) (v : SpecParts) (structures : List Structure) (sys : SystemParts) (entries : List Entry) (status : Status) (text : List ℕ)
-    → IsUnhindered words shelf sink command files → IsSystemOf v structures sys → IsTold (journal_grammar sys) files journal entries → Solves v.roles v.kinds structures → AnswersJournal shelf journal v structures status text → DecidesRun sys (wishes_of entries) (code_of status)
-decides_journal words shelf sink command files journal v structures sys entries status text free system told solves (other, other_is, h) =
-    let behind = subst (λ (s : SystemParts). ReadsAndAnswers (journal_grammar s) (λ every. Replays v structures s (wishes_of every)) shelf journal status text) (one_system v structures other sys other_is system) h in
-    decides_run v structures sys (wishes_of entries) status text solves (reads_told (journal_grammar sys) (λ every. Replays v structures sys (wishes_of every)) shelf files journal entries status text free.told (never_unread (journal_grammar sys) words shelf sink command files journal entries status text free told) told behind)
+-- where the third file is told as a text of a value, this value is answered
+third_told : {V : Type 0} (grammar : SpecParts → SystemParts → Grammar V) (answers : AnswersValue V) (words : List (List ℕ)) (shelf : ShelfSeen) (sink : SinkSeen) (command : Command) (files : List (List ℕ × List ℕ)) (file : List ℕ) (v : SpecParts) (structures : List Structure) (sys : SystemParts) (value : V) (status : Status) (text : List ℕ)
+    → IsUnhindered words shelf sink command files → IsSystemOf v structures sys → IsTold (grammar v sys) files file value → AnswersThird grammar answers shelf file v structures status text → answers v structures sys value status text
+third_told grammar answers words shelf sink command files file v structures sys value status text free system told (other, other_is, h) =
+    let behind = subst (λ (s : SystemParts). ReadsAndAnswers (grammar v s) (answers v structures s) shelf file status text) (one_system v structures other sys other_is system) h in
+    reads_told (grammar v sys) (answers v structures sys) shelf files file value status text free.told (never_unread (grammar v sys) words shelf sink command files file value status text free told) told behind
+
+decides_verdict : (sys : SystemParts) (stars : List Star) → Fits sys stars → (verdict : Verdict) → IsVerdict sys stars verdict → DecidesStars sys stars (code_of (verdict_status verdict))
+decides_verdict sys stars fits Accepted h = inr (inl (refl, h))
+decides_verdict sys stars fits NoPeelAtStart h = inr (inr (refl, λ accepted. (let e : Accepted ≡ NoPeelAtStart = one_verdict sys stars Accepted NoPeelAtStart fits accepted h in cc)))
+decides_verdict sys stars fits (ShapeMissing k) h = inr (inr (refl, λ accepted. (let e : Accepted ≡ ShapeMissing k = one_verdict sys stars Accepted (ShapeMissing k) fits accepted h in cc)))
+decides_verdict sys stars fits (StartMissing s) h = inr (inr (refl, λ accepted. (let e : Accepted ≡ StartMissing s = one_verdict sys stars Accepted (StartMissing s) fits accepted h in cc)))
+decides_verdict sys stars fits (NotClosed s m i) h = inr (inr (refl, λ accepted. (let e : Accepted ≡ NotClosed s m i = one_verdict sys stars Accepted (NotClosed s m i) fits accepted h in cc)))
+decides_verdict sys stars fits (Waits s m i) h = inr (inr (refl, λ accepted. (let e : Accepted ≡ Waits s m i = one_verdict sys stars Accepted (Waits s m i) fits accepted h in cc)))
+
+decides_stars : (v : SpecParts) (structures : List Structure) (sys : SystemParts) (stars : List Star) (status : Status) (text : List ℕ) → Solves v.roles v.kinds structures → Checks v structures sys stars status text → DecidesStars sys stars (code_of status)
+decides_stars v structures sys stars status text solves (inl h) = subst (λ (s : Status). DecidesStars sys stars (code_of s)) (sym h.1.status_is) (decides_verdict sys stars h.1.fits h.1.verdict h.1.is_verdict)
+decides_stars v structures sys stars status text solves (inr h) = absurd (never_fails v.roles v.kinds structures h.1.0 solves h.1.1)
+
+decides_check : (words : List (List ℕ)) (shelf : ShelfSeen) (sink : SinkSeen) (code : ℕ) → IsPlanned words shelf sink code → DecidesCheck words shelf sink code
+decides_check words shelf sink code planned files spec sol file v structures sys stars free told sol_told system file_told solves =
+    let command = check spec sol file in
+    decided words shelf sink command files (DecidesStars sys stars) code free (inl refl)
+    (λ status text h.
+    decides_stars v structures sys stars status text solves
+    (third_told certificate_grammar Checks words shelf sink command files file v structures sys stars status text free system file_told (unhindered_both (AnswersCertificate shelf file) words shelf sink command files spec sol v structures status text free told sol_told h)))
+    planned
 
 decides_replay : (words : List (List ℕ)) (shelf : ShelfSeen) (sink : SinkSeen) (code : ℕ) → IsPlanned words shelf sink code → DecidesReplay words shelf sink code
-decides_replay words shelf sink code planned files spec sol journal v structures sys entries free told sol_told system journal_told solves =
-    decided words shelf sink (replay spec sol journal) files (DecidesRun sys (wishes_of entries)) code free (inl refl)
+decides_replay words shelf sink code planned files spec sol file v structures sys entries free told sol_told system file_told solves =
+    let command = replay spec sol file in
+    decided words shelf sink command files (DecidesRun sys (wishes_of entries)) code free (inl refl)
     (λ status text h.
-    decides_journal words shelf sink (replay spec sol journal) files journal v structures sys entries status text free system journal_told solves (unhindered_both (AnswersJournal shelf journal) words shelf sink (replay spec sol journal) files spec sol v structures status text free told sol_told h))
+    decides_run v structures sys (wishes_of entries) status text solves
+    (third_told (λ v. journal_grammar) ReplaysJournal words shelf sink command files file v structures sys entries status text free system file_told (unhindered_both (AnswersJournal shelf file) words shelf sink command files spec sol v structures status text free told sol_told h)))
     planned
+
+migrated : (v : SpecParts) (status : Status) (text : List ℕ) → Migrates v status text → (code_of status ≡ 8) ⊎ (code_of status ≡ 0)
+migrated v Done text h = inr refl
+migrated v Usage text h = absurd h
+migrated v Refused text h = absurd h
+migrated v Unsatisfiable text h = absurd h
+migrated v Fails text h = absurd h
+migrated v ReadFault text h = absurd h
+migrated v WriteFault text h = absurd h
+migrated v OutOfMemory text h = absurd h
+
+decides_migrate : (words : List (List ℕ)) (shelf : ShelfSeen) (sink : SinkSeen) (code : ℕ) → IsPlanned words shelf sink code → DecidesMigrate words shelf sink code
+decides_migrate words shelf sink code planned files spec v free told =
+    decided words shelf sink (migrate spec) files (λ n. (n ≡ 8) ⊎ (n ≡ 0)) code free (inl refl) (λ status text h. migrated v status text (reads_told spec_grammar Migrates shelf files spec v status text free.told (never_unread spec_grammar words shelf sink (migrate spec) files spec v status text free told) told h)) planned
 
 pub Decides-from_planned : (words : List (List ℕ)) (shelf : ShelfSeen) (sink : SinkSeen) (code : ℕ) → IsPlanned words shelf sink code → Decides words shelf sink code
 Decides-from_planned words shelf sink code planned = record {
   decides_synth = decides_synth words shelf sink code planned;
   decides_prove = decides_prove words shelf sink code planned;
   decides_skel = decides_skel words shelf sink code planned;
+  decides_check = decides_check words shelf sink code planned;
   decides_replay = decides_replay words shelf sink code planned;
+  decides_migrate = decides_migrate words shelf sink code planned;
 }

@@ -3,7 +3,6 @@ pub mod Solved
 pub mod Synthesized
 pub mod Taken
 pub mod Skeletons
-pub mod FewEdges
 pub mod SystemLaws
 pub mod Pieces
 pub mod Replayed
@@ -12,6 +11,7 @@ pub mod BothTaken
 pub mod Planned
 pub mod OneSystem
 pub mod Told
+pub mod Verdicts
 pub mod Promised
 pub mod CommandWords
 pub mod OneRefusal

@@ -8,18 +8,23 @@ use Rattle.conjunctive_compose.specs.System.{SystemParts}
 use Rattle.firing_journal.specs.Journal.{wishes_of}
 use Rattle.text_cause.specs.declared.cause.TextCause.{TextCause}
 use Rattle.ctl_text.specs.Value.{SpecParts}
+use Rattle.waitfor_check.specs.declared.star.Star.{Star}
+use Rattle.waitfor_check.proofs.OneVerdict.{one_verdict}
 use Rattle.skeleton_tool.specs.declared.status.Status.{Status}
 use Rattle.skeleton_tool.specs.declared.status.Status.TheVariants.{Done, Usage, Refused, Unsatisfiable, Fails, ReadFault, WriteFault, OutOfMemory}
-use Rattle.skeleton_tool.specs.Answer.{AnswersBoth, AnswersCommand, AnswersKinds, IsAnswer, Proves, spec_grammar, solution_grammar}
-use Rattle.skeleton_tool.specs.Command.{Command, synth, prove, skel, replay, command_of}
+use Rattle.skeleton_tool.specs.Answer.{AnswersBoth, AnswersCommand, AnswersKinds, AnswersWords, Proves, spec_grammar, solution_grammar}
+use Rattle.skeleton_tool.specs.Check.{AnswersCertificate, Checks, TellsVerdict, certificate_grammar, verdict_status, verdict_text}
+use Rattle.skeleton_tool.specs.Command.{Command, synth, prove, skel, check, replay, migrate, command_of}
 use Rattle.skeleton_tool.specs.OneAnswer.{AreOne, IsChoice, OneAnswer}
+use Rattle.skeleton_tool.specs.Migrate.{Migrates}
 use Rattle.skeleton_tool.specs.Reading.{Grammar, IsBad, IsRead, IsUnread, ReadsAndAnswers}
 use Rattle.skeleton_tool.specs.Refusal.{refused_text}
-use Rattle.skeleton_tool.specs.Replay.{AnswersJournal, IsSystemOf, Replays, ReplaysWishes, journal_grammar}
+use Rattle.skeleton_tool.specs.Replay.{AnswersJournal, Replays, ReplaysJournal, ReplaysWishes, journal_grammar}
 use Rattle.skeleton_tool.specs.Skel.{Skels}
 use Rattle.skeleton_tool.specs.Taking.{Files, ShelfSeen, IsUntaken, IsGiven}
+use Rattle.skeleton_tool.specs.Third.{AnswersThird, AnswersValue, IsSystemOf}
 use Rattle.skeleton_tool.proofs.OneReplay.{run_once, runs_through, stuck_once}
-use Rattle.skeleton_tool.proofs.OneRefusal.{journal_refused_once, solution_refused_once, spec_refused_once}
+use Rattle.skeleton_tool.proofs.OneRefusal.{certificate_refused_once, journal_refused_once, solution_refused_once, spec_refused_once}
 use Rattle.skeleton_tool.proofs.OneSystem.{one_system}
 use Rattle.skeleton_tool.proofs.OneText.{failing_once, never_solved, shown_once, unsolvable_once}
 use Rattle.skeleton_tool.proofs.Solved.{never_fails}
@@ -95,6 +100,11 @@ kinds_once v spec Done status text written a b = absurd b
 kinds_once v spec Unsatisfiable status text written a b = absurd b
 kinds_once v spec status other text written a b = absurd a
 
+migrates_once : (v : SpecParts) (one other : Status) (text written : List ℕ) → Migrates v one text → Migrates v other written → AreOne ⊥ one other text written
+migrates_once v Done Done text written a b = one_text ⊥ Done text written (a.text_is ∙ sym b.text_is)
+migrates_once v Done status text written a b = absurd b
+migrates_once v status other text written a b = absurd a
+
 proves_once : (v : SpecParts) (structures : List Structure) (one other : Status) (text written : List ℕ) → Proves v structures one text → Proves v structures other written → AreOne ⊥ one other text written
 proves_once v structures Done Done text written a b = one_text ⊥ Done text written (a.1 ∙ sym b.1)
 proves_once v structures Done Fails text written a b = absurd (never_fails v.roles v.kinds structures b.0 a.0 b.1)
@@ -131,11 +141,28 @@ replays_once v structures sys run one other text written (inr a) (inr b) = recor
   text_is = λ no. failing_once v structures text written a.1 b.1;
 }
 
-journal_once : (shelf : ShelfSeen) (all : List (List ℕ × List ℕ)) (file : List ℕ) (v : SpecParts) (structures : List Structure) (one other : Status) (text written : List ℕ) → IsQuiet shelf all → AnswersJournal shelf file v structures one text → AnswersJournal shelf file v structures other written
-    → AreOne ⊥ one other text written
-journal_once shelf all file v structures one other text written quiet (sys, system, a) (also, also_is, b) =
-    let here = subst (λ (s : SystemParts). ReadsAndAnswers (journal_grammar s) (λ entries. Replays v structures s (wishes_of entries)) shelf file other written) (one_system v structures also sys also_is system) b in
-    reads_once (journal_grammar sys) (λ entries. Replays v structures sys (wishes_of entries)) ⊥ shelf all file one other text written (journal_refused_once sys (journal_grammar sys).word) quiet (λ entries read. replays_once v structures sys (wishes_of entries) one other text written) a here
+verdict_once : (sys : SystemParts) (stars : List Star) (one other : Status) (text written : List ℕ) → TellsVerdict sys stars one text → TellsVerdict sys stars other written → AreOne ⊥ one other text written
+verdict_once sys stars one other text written a b =
+    let same = one_verdict sys stars a.verdict b.verdict a.fits a.is_verdict b.is_verdict in record {
+      status = a.status_is ∙ ap verdict_status same ∙ sym b.status_is;
+      text_is = λ no. a.text_is ∙ ap (verdict_text sys) same ∙ sym b.text_is;
+    }
+
+checks_once : (v : SpecParts) (structures : List Structure) (sys : SystemParts) (stars : List Star) (one other : Status) (text written : List ℕ) → Checks v structures sys stars one text → Checks v structures sys stars other written → AreOne ⊥ one other text written
+checks_once v structures sys stars one other text written (inl a) (inl b) = verdict_once sys stars one other text written a.1 b.1
+checks_once v structures sys stars one other text written (inl a) (inr b) = absurd (never_fails v.roles v.kinds structures b.1.0 a.0 b.1.1)
+checks_once v structures sys stars one other text written (inr a) (inl b) = absurd (never_fails v.roles v.kinds structures a.1.0 b.0 a.1.1)
+checks_once v structures sys stars one other text written (inr a) (inr b) = record {
+  status = a.0 ∙ sym b.0;
+  text_is = λ no. failing_once v structures text written a.1 b.1;
+}
+
+third_once : {V : Type 0} (grammar : SpecParts → SystemParts → Grammar V) (answers : AnswersValue V) (shelf : ShelfSeen) (all : List (List ℕ × List ℕ)) (file : List ℕ) (v : SpecParts) (structures : List Structure) (one other : Status) (text written : List ℕ)
+    → IsQuiet shelf all → ((sys : SystemParts) → RefusesOnce (grammar v sys)) → ((sys : SystemParts) (value : V) → answers v structures sys value one text → answers v structures sys value other written → AreOne ⊥ one other text written)
+    → AnswersThird grammar answers shelf file v structures one text → AnswersThird grammar answers shelf file v structures other written → AreOne ⊥ one other text written
+third_once grammar answers shelf all file v structures one other text written quiet once each (sys, system, a) (also, also_is, b) =
+    let here = subst (λ (s : SystemParts). ReadsAndAnswers (grammar v s) (answers v structures s) shelf file other written) (one_system v structures also sys also_is system) b in
+    reads_once (grammar v sys) (answers v structures sys) ⊥ shelf all file one other text written (once sys) quiet (λ value read. each sys value) a here
 
 both_once : (answers : SpecParts → List Structure → Status → List ℕ → Type 0) (shelf : ShelfSeen) (all : List (List ℕ × List ℕ)) (spec sol : List ℕ) (one other : Status) (text written : List ℕ)
     → IsQuiet shelf all → ((v : SpecParts) (structures : List Structure) → answers v structures one text → answers v structures other written → AreOne ⊥ one other text written) → AnswersBoth answers shelf spec sol one text → AnswersBoth answers shelf spec sol other written
@@ -150,7 +177,15 @@ command_once shelf all (synth spec) one other text written quiet a b =
     reads_once spec_grammar (λ v. AnswersKinds v.roles v.kinds) (IsChoice (Some (synth spec)) one) shelf all spec one other text written (spec_refused_once spec_grammar.word) quiet (λ v read. kinds_once v spec one other text written) a b
 command_once shelf all (prove spec sol) one other text written quiet a b = both_once Proves shelf all spec sol one other text written quiet (λ v structures. proves_once v structures one other text written) a b
 command_once shelf all (skel spec sol) one other text written quiet a b = both_once Skels shelf all spec sol one other text written quiet (λ v structures. skels_once v structures one other text written) a b
-command_once shelf all (replay spec sol file) one other text written quiet a b = both_once (AnswersJournal shelf file) shelf all spec sol one other text written quiet (λ v structures. journal_once shelf all file v structures one other text written quiet) a b
+command_once shelf all (check spec sol file) one other text written quiet a b =
+    both_once (AnswersCertificate shelf file) shelf all spec sol one other text written quiet
+    (λ v structures. third_once certificate_grammar Checks shelf all file v structures one other text written quiet (λ sys. certificate_refused_once v sys (certificate_grammar v sys).word) (λ sys stars. checks_once v structures sys stars one other text written))
+    a b
+command_once shelf all (replay spec sol file) one other text written quiet a b =
+    both_once (AnswersJournal shelf file) shelf all spec sol one other text written quiet
+    (λ v structures. third_once (λ v. journal_grammar) ReplaysJournal shelf all file v structures one other text written quiet (λ sys. journal_refused_once sys (journal_grammar sys).word) (λ sys entries. replays_once v structures sys (wishes_of entries) one other text written))
+    a b
+command_once shelf all (migrate spec) one other text written quiet a b = reads_once spec_grammar Migrates ⊥ shelf all spec one other text written (spec_refused_once spec_grammar.word) quiet (λ v read. migrates_once v one other text written) a b
 
 same_command : (words : List (List ℕ)) (one other : Command) → command_of words ≡ Some one → command_of words ≡ Some other → other ≡ one
 same_command words one other a b = let e : Some one ≡ Some other = sym a ∙ b in cc
@@ -158,7 +193,7 @@ same_command words one other a b = let e : Some one ≡ Some other = sym a ∙ b
 never_named : (words : List (List ℕ)) (command : Command) → command_of words ≡ None → command_of words ≡ Some command → ⊥
 never_named words command a b = let e : None ≡ Some command = sym a ∙ b in cc
 
-words_once : (words : List (List ℕ)) (shelf : ShelfSeen) (all : List (List ℕ × List ℕ)) (one other : Status) (text written : List ℕ) → IsQuiet shelf all → IsAnswer words shelf one text → IsAnswer words shelf other written → AreOne (IsChoice (command_of words) one) one other text written
+words_once : (words : List (List ℕ)) (shelf : ShelfSeen) (all : List (List ℕ × List ℕ)) (one other : Status) (text written : List ℕ) → IsQuiet shelf all → AnswersWords words shelf one text → AnswersWords words shelf other written → AreOne (IsChoice (command_of words) one) one other text written
 words_once words shelf all one other text written quiet (inl a) (inl b) = record { status = a.1 ∙ sym b.1; text_is = λ no. a.2 ∙ sym b.2 }
 words_once words shelf all one other text written quiet (inl a) (inr b) = absurd (never_named words b.0 a.0 b.1)
 words_once words shelf all one other text written quiet (inr a) (inl b) = absurd (never_named words a.0 b.0 a.1)

@@ -9,6 +9,7 @@ use Rattle.text_cause.specs.Grammar.{Grammar, IsRefused}
 use Rattle.text_cause.specs.inside.Laws.{IsLawful, IsSameRefusal}
 use Rattle.text_cause.proofs.TextLaws.{one_refusal}
 use Rattle.ctl_text.specs.State.{first_state}
+use Rattle.ctl_text.specs.Value.{SpecParts}
 use Rattle.ctl_text.specs.Text.{IsRefused as IsSpecRefused, specifications}
 use Rattle.ctl_text.proofs.TextLaws.{specifications_lawful}
 use Rattle.solution_text.specs.State.{first_state as first_of}
@@ -17,6 +18,9 @@ use Rattle.solution_text.proofs.TextLaws.{solutions_lawful}
 use Rattle.firing_journal.specs.Place.{before_head}
 use Rattle.firing_journal.specs.Text.{IsRefused as IsJournalRefused, journals}
 use Rattle.firing_journal.proofs.Texts.{journals_lawful}
+use Rattle.certificate_text.specs.State.{first_state as first_certificate}
+use Rattle.certificate_text.specs.Text.{IsRefused as IsCertificateRefused, certificates}
+use Rattle.certificate_text.proofs.TextLaws.{certificates_lawful}
 use Rattle.skeleton_tool.specs.Refusal.{refused_text}
 
 -- of two numbers neither is below the other
@@ -43,3 +47,6 @@ solution_refused_once roles kinds word bytes line at c d a b = refused_once (sol
 
 pub journal_refused_once : (sys : SystemParts) (word bytes : List ℕ) (line at : ℕ) (c d : TextCause) → IsJournalRefused sys bytes line c → IsJournalRefused sys bytes at d → refused_text word line c ≡ refused_text word at d
 journal_refused_once sys word bytes line at c d a b = refused_once (journals sys) (journals_lawful sys) before_head word bytes line at c d a b
+
+pub certificate_refused_once : (v : SpecParts) (sys : SystemParts) (word bytes : List ℕ) (line at : ℕ) (c d : TextCause) → IsCertificateRefused v sys bytes line c → IsCertificateRefused v sys bytes at d → refused_text word line c ≡ refused_text word at d
+certificate_refused_once v sys word bytes line at c d a b = refused_once (certificates v sys) (certificates_lawful v sys) first_certificate word bytes line at c d a b

@@ -7,7 +7,7 @@ use Rattle.conjunctive_compose.specs.declared.wish.StepAnswer.{StepAnswer}
 use Rattle.conjunctive_compose.specs.declared.wish.StepAnswer.TheVariants.{Moved, Away, Blocked}
 use Rattle.conjunctive_compose.specs.Firing.{IsAnswer, Moves, fired}
 use Rattle.conjunctive_compose.specs.Reply.{after_first}
-use Rattle.conjunctive_compose.specs.Run.{IsRun, after}
+use Rattle.conjunctive_compose.specs.Run.{IsRun, whole_after}
 use Rattle.conjunctive_compose.specs.System.{SystemParts, edge_count}
 use Rattle.conjunctive_compose.specs.Whole.{WholeParts, start_of}
 use Rattle.conjunctive_compose.proofs.Pairs.{one_pair}
@@ -16,7 +16,7 @@ use Rattle.skeleton_tool.specs.Replay.{AreStates, TellsRun, TellsStuck, run_text
 use Rattle.skeleton_tool.proofs.OneRefusal.{same_if_neither}
 
 -- each wish of a run moves
-run_moves : (sys : SystemParts) (w : WholeParts) (run : List Wish) (n at : ℕ) → IsRun sys w (take n run) → at < n → at < length run → Moves sys (after sys w (take at run)) (wish_at run at)
+run_moves : (sys : SystemParts) (w : WholeParts) (run : List Wish) (n at : ℕ) → IsRun sys w (take n run) → at < n → at < length run → Moves sys (whole_after sys w (take at run)) (wish_at run at)
 run_moves sys w [] n at is below lt = absurd (omega (arith, lt))
 run_moves sys w (wish ∷ later) zero at is below lt = absurd (omega (arith, below))
 run_moves sys w (wish ∷ later) (suc n) zero is below lt = is.0

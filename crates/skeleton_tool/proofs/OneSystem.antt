@@ -13,7 +13,7 @@ use Rattle.skeleton_extract.specs.Commands.{Lists, IsBelow, IsListed, IsRising, 
 use Rattle.interconnection.specs.Network.{NetworkParts}
 use Rattle.conjunctive_compose.specs.System.{SystemParts, HasCommands, no_lists}
 use Rattle.ctl_text.specs.Value.{SpecParts}
-use Rattle.skeleton_tool.specs.Replay.{IsSystemOf}
+use Rattle.skeleton_tool.specs.Third.{IsSystemOf}
 
 first_or_later : (y c : Command) (ys : List Command) → Contains (y ∷ ys) c → (c ≡ y) ⊎ Contains ys c
 first_or_later y c ys (zero, lt, is) = inl (sym is)

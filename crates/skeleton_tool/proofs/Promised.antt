@@ -1,5 +1,5 @@
 -- What a call promises of each command follows from its outcome.
-use Rattle.std.proofs.Common.{ℕ, ◌≡◌, ◌⊎◌, ◌∙◌, inl, inr, Some, List, sym, subst, ap, refl}
+use Rattle.std.proofs.Common.{ℕ, ◌≡◌, ◌⊎◌, ◌∙◌, inl, inr, Some, List, codes, sym, subst, ap, refl}
 use Rattle.std.specs.Prelude.{◌==◌, if◌then◌else◌}
 use Rattle.edge_io.specs.Told.{Appends}
 use Rattle.pair_structure.specs.Structure.{Structure}
@@ -8,17 +8,26 @@ use Rattle.firing_journal.specs.declared.journal.Entry.{Entry}
 use Rattle.firing_journal.specs.Journal.{wishes_of}
 use Rattle.ctl_form.specs.Kind.{Solves}
 use Rattle.ctl_text.specs.Value.{SpecParts}
+use Rattle.waitfor_check.specs.declared.star.Star.{Star}
+use Rattle.waitfor_check.specs.declared.verdict.Verdict.{Verdict}
+use Rattle.waitfor_check.specs.declared.verdict.Verdict.TheVariants.{Accepted, NoPeelAtStart, ShapeMissing, StartMissing, NotClosed, Waits}
+use Rattle.waitfor_check.specs.Accepted.{IsAccepted}
+use Rattle.waitfor_check.specs.Verdicts.{IsVerdict}
+use Rattle.waitfor_check.proofs.GoingOn.{accepted_goes_on}
 use Rattle.skeleton_tool.specs.declared.status.Status.{Status}
 use Rattle.skeleton_tool.specs.declared.status.Status.TheVariants.{Done, Usage, Refused, Unsatisfiable, Fails, ReadFault, WriteFault, OutOfMemory}
 use Rattle.skeleton_tool.specs.Answer.{SinkSeen, AnswersBoth, AnswersCommand, AnswersKinds, IsOutcome, IsPlanned, Proves, spec_grammar, solution_grammar}
-use Rattle.skeleton_tool.specs.Command.{Command, synth, prove, skel, replay, command_of}
+use Rattle.skeleton_tool.specs.Check.{AnswersCertificate, Checks, TellsVerdict, certificate_grammar, verdict_status, verdict_text}
+use Rattle.skeleton_tool.specs.Command.{Command, synth, prove, skel, check, replay, migrate, command_of}
 use Rattle.skeleton_tool.specs.Failing.{NamesFailing}
-use Rattle.skeleton_tool.specs.Headline.{IsCalled, Promises, ProveJudges, ReplayTells, SkelShows, SynthFindsNone, SynthSolves}
+use Rattle.skeleton_tool.specs.Headline.{CheckJudges, IsCalled, MigrateWrites, Promises, ProveJudges, ReplayTells, RunsGoOn, SkelShows, SynthFindsNone, SynthSolves}
+use Rattle.skeleton_tool.specs.Migrate.{Migrates}
 use Rattle.skeleton_tool.specs.Reading.{Grammar, IsTold, IsUnread, ReadsAndAnswers}
-use Rattle.skeleton_tool.specs.Replay.{AnswersJournal, IsSystemOf, Replays, TellsRun, TellsStuck, journal_grammar}
+use Rattle.skeleton_tool.specs.Replay.{AnswersJournal, Replays, ReplaysJournal, TellsRun, TellsStuck, journal_grammar}
 use Rattle.skeleton_tool.specs.Skel.{Skels}
 use Rattle.skeleton_tool.specs.Status.{code_of}
 use Rattle.skeleton_tool.specs.Taking.{ShelfSeen, IsUntaken}
+use Rattle.skeleton_tool.specs.Third.{AnswersThird, AnswersValue, IsSystemOf}
 use Rattle.skeleton_tool.proofs.OneSystem.{one_system}
 use Rattle.skeleton_tool.proofs.Told.{answers_command, both_told, reads_told}
 
@@ -55,16 +64,16 @@ unread grammar shelf file status text own (inl h) = untaken shelf grammar.word f
 unread grammar shelf file status text own (inr h) = subst IsOwn h.0 own
 
 -- with such a status the command's own answer was written
-written : (words : List (List ℕ)) (shelf : ShelfSeen) (sink : SinkSeen) (command : Command) (status : Status) → command_of words ≡ Some command → IsOwn status → IsOutcome words shelf sink status → (text : List ℕ) × AnswersCommand shelf command status text × Appends sink.before sink.after text
-written words shelf sink command Done is own h = (h.0, answers_command words shelf Done h.0 command is h.1, h.2)
-written words shelf sink command Unsatisfiable is own h = (h.0, answers_command words shelf Unsatisfiable h.0 command is h.1, h.2)
-written words shelf sink command Fails is own h = (h.0, answers_command words shelf Fails h.0 command is h.1, h.2)
-written words shelf sink command status is own h = absurd own
+own_status_writes : (words : List (List ℕ)) (shelf : ShelfSeen) (sink : SinkSeen) (command : Command) (status : Status) → command_of words ≡ Some command → IsOwn status → IsOutcome words shelf sink status → (text : List ℕ) × AnswersCommand shelf command status text × Appends sink.before sink.after text
+own_status_writes words shelf sink command Done is own h = (h.0, answers_command words shelf Done h.0 command is h.1, h.2)
+own_status_writes words shelf sink command Unsatisfiable is own h = (h.0, answers_command words shelf Unsatisfiable h.0 command is h.1, h.2)
+own_status_writes words shelf sink command Fails is own h = (h.0, answers_command words shelf Fails h.0 command is h.1, h.2)
+own_status_writes words shelf sink command status is own h = absurd own
 
 own_answer : (words : List (List ℕ)) (shelf : ShelfSeen) (sink : SinkSeen) (code : ℕ) (command : Command) (status : Status) → IsPlanned words shelf sink code → command_of words ≡ Some command → code ≡ code_of status → IsOwn status → (text : List ℕ) × AnswersCommand shelf command status text × Appends sink.before sink.after text
 own_answer words shelf sink code command status (other, other_is, outcome) is code_is own =
     let same : other ≡ status = sym (status_of-code_of other) ∙ ap status_of (sym other_is ∙ code_is) ∙ status_of-code_of status in
-    written words shelf sink command status is own (subst (IsOutcome words shelf sink) same outcome)
+    own_status_writes words shelf sink command status is own (subst (IsOutcome words shelf sink) same outcome)
 
 kinds_answer : (words : List (List ℕ)) (shelf : ShelfSeen) (sink : SinkSeen) (code : ℕ) (status : Status) (files : List (List ℕ × List ℕ)) (spec : List ℕ) (v : SpecParts)
     → IsPlanned words shelf sink code → IsCalled words shelf (synth spec) files → IsTold spec_grammar files spec v → code ≡ code_of status → IsOwn status → (text : List ℕ) × AnswersKinds v.roles v.kinds status text × Appends sink.before sink.after text
@@ -105,13 +114,41 @@ skel_shows words shelf sink code planned files spec sol v structures called spec
       (own.0, both_own Skels shelf files spec sol v structures Fails own.0 called.told tt spec_is sol_is own.1, own.2)),
 )
 
-replays_own : (shelf : ShelfSeen) (files : List (List ℕ × List ℕ)) (spec sol journal : List ℕ) (v : SpecParts) (structures : List Structure) (sys : SystemParts) (entries : List Entry) (status : Status) (text : List ℕ)
-    → shelf.files ≡ Some files → IsOwn status → IsTold spec_grammar files spec v → IsTold (solution_grammar v) files sol structures → IsSystemOf v structures sys → IsTold (journal_grammar sys) files journal entries → AnswersBoth (AnswersJournal shelf journal) shelf spec sol status text
-    → Replays v structures sys (wishes_of entries) status text
-replays_own shelf files spec sol journal v structures sys entries status text told own spec_is sol_is system journal_is h =
-    let (other, other_is, behind) = both_own (AnswersJournal shelf journal) shelf files spec sol v structures status text told own spec_is sol_is h in
-    let here = subst (λ (s : SystemParts). ReadsAndAnswers (journal_grammar s) (λ every. Replays v structures s (wishes_of every)) shelf journal status text) (one_system v structures other sys other_is system) behind in
-    reads_told (journal_grammar sys) (λ every. Replays v structures sys (wishes_of every)) shelf files journal entries status text told (unread (journal_grammar sys) shelf journal status text own) journal_is here
+third_own : {V : Type 0} (grammar : SpecParts → SystemParts → Grammar V) (answers : AnswersValue V) (shelf : ShelfSeen) (files : List (List ℕ × List ℕ)) (spec sol file : List ℕ) (v : SpecParts) (structures : List Structure) (sys : SystemParts) (value : V) (status : Status) (text : List ℕ)
+    → shelf.files ≡ Some files → IsOwn status → IsTold spec_grammar files spec v → IsTold (solution_grammar v) files sol structures → IsSystemOf v structures sys → IsTold (grammar v sys) files file value → AnswersBoth (AnswersThird grammar answers shelf file) shelf spec sol status text
+    → answers v structures sys value status text
+third_own grammar answers shelf files spec sol file v structures sys value status text told own spec_is sol_is system file_is h =
+    let (other, other_is, behind) = both_own (AnswersThird grammar answers shelf file) shelf files spec sol v structures status text told own spec_is sol_is h in
+    let here = subst (λ (s : SystemParts). ReadsAndAnswers (grammar v s) (answers v structures s) shelf file status text) (one_system v structures other sys other_is system) behind in
+    reads_told (grammar v sys) (answers v structures sys) shelf files file value status text told (unread (grammar v sys) shelf file status text own) file_is here
+
+-- with 0 the verdict is that the certificate is accepted
+accepted_verdict : (sys : SystemParts) (stars : List Star) (text : List ℕ) (verdict : Verdict) → Done ≡ verdict_status verdict → IsVerdict sys stars verdict → text ≡ verdict_text sys verdict → IsAccepted sys stars × (text ≡ codes "accepted\n")
+accepted_verdict sys stars text Accepted is h text_is = (h, text_is)
+accepted_verdict sys stars text NoPeelAtStart is h text_is = absurd (let e : Done ≡ Fails = is in cc)
+accepted_verdict sys stars text (ShapeMissing k) is h text_is = absurd (let e : Done ≡ Fails = is in cc)
+accepted_verdict sys stars text (StartMissing s) is h text_is = absurd (let e : Done ≡ Fails = is in cc)
+accepted_verdict sys stars text (NotClosed s m i) is h text_is = absurd (let e : Done ≡ Fails = is in cc)
+accepted_verdict sys stars text (Waits s m i) is h text_is = absurd (let e : Done ≡ Fails = is in cc)
+
+done_accepts : (v : SpecParts) (structures : List Structure) (sys : SystemParts) (stars : List Star) (text : List ℕ) → Checks v structures sys stars Done text → Solves v.roles v.kinds structures × IsAccepted sys stars × (text ≡ codes "accepted\n")
+done_accepts v structures sys stars text (inl h) = let accepted = accepted_verdict sys stars text h.1.verdict h.1.status_is h.1.is_verdict h.1.text_is in (h.0, accepted.0, accepted.1)
+done_accepts v structures sys stars text (inr h) = absurd (let e : Done ≡ Fails = h.0 in cc)
+
+refused_so : (v : SpecParts) (structures : List Structure) (sys : SystemParts) (stars : List Star) (text : List ℕ) → Checks v structures sys stars Fails text → (Solves v.roles v.kinds structures × TellsVerdict sys stars Fails text) ⊎ NamesFailing v structures text
+refused_so v structures sys stars text (inl h) = inl h
+refused_so v structures sys stars text (inr h) = inr h.1
+
+check_judges : (words : List (List ℕ)) (shelf : ShelfSeen) (sink : SinkSeen) (code : ℕ) → IsPlanned words shelf sink code → CheckJudges words shelf sink code
+check_judges words shelf sink code planned files spec sol file v structures sys stars called spec_is sol_is system file_is = (
+  λ is.
+      (let own = own_answer words shelf sink code (check spec sol file) Done planned called.command_is is tt in
+      let done = done_accepts v structures sys stars own.0 (third_own certificate_grammar Checks shelf files spec sol file v structures sys stars Done own.0 called.told tt spec_is sol_is system file_is own.1) in
+      (done.0, done.1, (λ wishes run. accepted_goes_on sys stars wishes system.system done.1 run), (own.0, done.2, own.2))),
+  λ is.
+      (let own = own_answer words shelf sink code (check spec sol file) Fails planned called.command_is is tt in
+      (own.0, refused_so v structures sys stars own.0 (third_own certificate_grammar Checks shelf files spec sol file v structures sys stars Fails own.0 called.told tt spec_is sol_is system file_is own.1), own.2)),
+)
 
 done_runs : (v : SpecParts) (structures : List Structure) (sys : SystemParts) (entries : List Entry) (text : List ℕ) → Replays v structures sys (wishes_of entries) Done text → Solves v.roles v.kinds structures × TellsRun sys (wishes_of entries) text
 done_runs v structures sys entries text (inl h) = h
@@ -125,12 +162,17 @@ replay_tells : (words : List (List ℕ)) (shelf : ShelfSeen) (sink : SinkSeen) (
 replay_tells words shelf sink code planned files spec sol journal v structures sys entries called spec_is sol_is system journal_is = (
   λ is.
       (let own = own_answer words shelf sink code (replay spec sol journal) Done planned called.command_is is tt in
-      let runs = done_runs v structures sys entries own.0 (replays_own shelf files spec sol journal v structures sys entries Done own.0 called.told tt spec_is sol_is system journal_is own.1) in
+      let runs = done_runs v structures sys entries own.0 (third_own (λ v. journal_grammar) ReplaysJournal shelf files spec sol journal v structures sys entries Done own.0 called.told tt spec_is sol_is system journal_is own.1) in
       (runs.0, (own.0, runs.1, own.2))),
   λ is.
       (let own = own_answer words shelf sink code (replay spec sol journal) Fails planned called.command_is is tt in
-      (own.0, fails_so v structures sys entries own.0 (replays_own shelf files spec sol journal v structures sys entries Fails own.0 called.told tt spec_is sol_is system journal_is own.1), own.2)),
+      (own.0, fails_so v structures sys entries own.0 (third_own (λ v. journal_grammar) ReplaysJournal shelf files spec sol journal v structures sys entries Fails own.0 called.told tt spec_is sol_is system journal_is own.1), own.2)),
 )
+
+migrate_writes : (words : List (List ℕ)) (shelf : ShelfSeen) (sink : SinkSeen) (code : ℕ) → IsPlanned words shelf sink code → MigrateWrites words shelf sink code
+migrate_writes words shelf sink code planned files spec v called told is =
+    let own = own_answer words shelf sink code (migrate spec) Done planned called.command_is is tt in
+    (own.0, reads_told spec_grammar Migrates shelf files spec v Done own.0 called.told (unread spec_grammar shelf spec Done own.0 tt) told own.1, own.2)
 
 pub Promises-from_planned : (words : List (List ℕ)) (shelf : ShelfSeen) (sink : SinkSeen) (code : ℕ) → IsPlanned words shelf sink code → Promises words shelf sink code
 Promises-from_planned words shelf sink code planned = record {
@@ -138,5 +180,7 @@ Promises-from_planned words shelf sink code planned = record {
   synth_finds_none = synth_finds_none words shelf sink code planned;
   prove_judges = prove_judges words shelf sink code planned;
   skel_shows = skel_shows words shelf sink code planned;
+  check_judges = check_judges words shelf sink code planned;
   replay_tells = replay_tells words shelf sink code planned;
+  migrate_writes = migrate_writes words shelf sink code planned;
 }

@@ -10,7 +10,7 @@ use Rattle.conjunctive_compose.specs.declared.wish.StepAnswer.TheVariants.{Moved
 use Rattle.conjunctive_compose.specs.System.{SystemParts, IsSystem, edge_at, edge_count, process_count}
 use Rattle.conjunctive_compose.specs.Whole.{WholeParts, IsProper, start_of}
 use Rattle.conjunctive_compose.specs.Reply.{count_of}
-use Rattle.conjunctive_compose.specs.Run.{after}
+use Rattle.conjunctive_compose.specs.Run.{whole_after}
 use Rattle.conjunctive_compose.proofs.Edges.{edge_lawful}
 use Rattle.conjunctive_compose.proofs.Runs.{reachable_is_proper}
 use Rattle.firing_journal.specs.Replay.{LeavesWhole, IsFirstStuck}
@@ -18,7 +18,7 @@ use Rattle.skeleton_tool.specs.inside.Telling.{IsRefusal}
 
 -- what a run leaves is proper
 pub run_proper : (sys : SystemParts) (run : List Wish) (w : WholeParts) (moves : List ℕ) → IsSystem sys → LeavesWhole sys run w moves → IsProper sys w
-run_proper sys run w moves system leaves = subst (IsProper sys) (sym leaves.whole) (reachable_is_proper sys (after sys (start_of sys) run) system (run, leaves.is_run, refl))
+run_proper sys run w moves system leaves = subst (IsProper sys) (sym leaves.whole) (reachable_is_proper sys (whole_after sys (start_of sys) run) system (run, leaves.is_run, refl))
 
 -- a count for each process
 pub run_counts : (sys : SystemParts) (run : List Wish) (w : WholeParts) (moves : List ℕ) → LeavesWhole sys run w moves → length moves ≡ process_count sys

@@ -5,7 +5,7 @@ use Rattle.ctl_text.specs.Value.{SpecParts}
 use Rattle.solution_text.specs.SolutionText.{solution_text}
 use Rattle.solution_text.specs.Text.{IsSolutionText}
 use Rattle.skeleton_tool.specs.Answer.{AreLeast, IsSolved}
-use Rattle.skeleton_tool.specs.Command.{Command, synth, asked_files, spec_limit, solution_limit, journal_limit}
+use Rattle.skeleton_tool.specs.Command.{Command, synth, migrate, asked_files, spec_limit, solution_limit}
 
 -- the text that was written for structures that solve is the answer
 pub solved_text : (v : SpecParts) (ms sol : List Structure) (old new : List ℕ) → AreLeast v.roles v.kinds ms → sol ≡ ms → old ≡ [] → new ≡ old ++ solution_text v.roles v.kinds sol → IsSolutionText v.roles v.kinds (solution_text v.roles v.kinds sol) sol → IsSolved v.roles v.kinds new
@@ -19,13 +19,16 @@ solved_text v ms sol old new least same empty written text = record {
 pub synth_asks : (MayAsk : List ℕ × ℕ → Type 0) (command : Command) (spec : List ℕ) → command ≡ synth spec → All MayAsk (asked_files (Some command)) → MayAsk (spec, spec_limit)
 synth_asks MayAsk command spec is allowed = let all = rw is at allowed in all 0 (spec, spec_limit) (omega arith)
 
+pub migrate_asks : (MayAsk : List ℕ × ℕ → Type 0) (command : Command) (spec : List ℕ) → command ≡ migrate spec → All MayAsk (asked_files (Some command)) → MayAsk (spec, spec_limit)
+migrate_asks MayAsk command spec is allowed = let all = rw is at allowed in all 0 (spec, spec_limit) (omega arith)
+
 -- a command over a specification and a solution asks for both
 pub both_asked : (MayAsk : List ℕ × ℕ → Type 0) (command : Command) (spec sol : List ℕ) → asked_files (Some command) ≡ (spec, spec_limit) ∷ (sol, solution_limit) ∷ [] → All MayAsk (asked_files (Some command)) → MayAsk (spec, spec_limit) × MayAsk (sol, solution_limit)
 both_asked MayAsk command spec sol is allowed = let all = rw is at allowed in (all 0 (spec, spec_limit) (omega arith), all 1 (spec, spec_limit) (omega arith))
 
--- a command over a specification, a solution and a journal asks for all three
-pub all_asked : (MayAsk : List ℕ × ℕ → Type 0) (command : Command) (spec sol journal : List ℕ) → asked_files (Some command) ≡ (spec, spec_limit) ∷ (sol, solution_limit) ∷ (journal, journal_limit) ∷ [] → All MayAsk (asked_files (Some command)) → MayAsk (spec, spec_limit) × MayAsk (sol, solution_limit) × MayAsk (journal, journal_limit)
-all_asked MayAsk command spec sol journal is allowed = let all = rw is at allowed in (all 0 (spec, spec_limit) (omega arith), all 1 (spec, spec_limit) (omega arith), all 2 (spec, spec_limit) (omega arith))
+-- a command over a specification, a solution and a third file asks for all three
+pub all_asked : (limit : ℕ) (MayAsk : List ℕ × ℕ → Type 0) (command : Command) (spec sol file : List ℕ) → asked_files (Some command) ≡ (spec, spec_limit) ∷ (sol, solution_limit) ∷ (file, limit) ∷ [] → All MayAsk (asked_files (Some command)) → MayAsk (spec, spec_limit) × MayAsk (sol, solution_limit) × MayAsk (file, limit)
+all_asked limit MayAsk command spec sol file is allowed = let all = rw is at allowed in (all 0 (spec, spec_limit) (omega arith), all 1 (spec, spec_limit) (omega arith), all 2 (spec, spec_limit) (omega arith))
 
 -- three pieces, one after another
 pub three_pieces : (a x y w z b c d : List ℕ) → b ≡ a ++ x → c ≡ b ++ y → y ≡ w → d ≡ c ++ z → d ≡ a ++ (x ++ w ++ z)

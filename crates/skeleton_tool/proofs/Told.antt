@@ -4,7 +4,7 @@ use Rattle.edge_io.specs.Told.{file_named}
 use Rattle.pair_structure.specs.Structure.{Structure}
 use Rattle.ctl_text.specs.Value.{SpecParts}
 use Rattle.skeleton_tool.specs.declared.status.Status.{Status}
-use Rattle.skeleton_tool.specs.Answer.{AnswersBoth, AnswersCommand, IsAnswer, spec_grammar, solution_grammar}
+use Rattle.skeleton_tool.specs.Answer.{AnswersBoth, AnswersCommand, AnswersWords, spec_grammar, solution_grammar}
 use Rattle.skeleton_tool.specs.Command.{Command, command_of}
 use Rattle.skeleton_tool.specs.Reading.{Grammar, IsBad, IsRead, IsTold, IsUnread, ReadsAndAnswers}
 use Rattle.skeleton_tool.specs.Taking.{Files, ShelfSeen}
@@ -42,6 +42,6 @@ both_told answers shelf all spec sol v structures status text told never_spec ne
     reads_told (solution_grammar v) (answers v) shelf all sol structures status text told never_sol sol_is behind
 
 -- the command that the words are is answered
-pub answers_command : (words : List (List ℕ)) (shelf : ShelfSeen) (status : Status) (text : List ℕ) (command : Command) → command_of words ≡ Some command → IsAnswer words shelf status text → AnswersCommand shelf command status text
+pub answers_command : (words : List (List ℕ)) (shelf : ShelfSeen) (status : Status) (text : List ℕ) (command : Command) → command_of words ≡ Some command → AnswersWords words shelf status text → AnswersCommand shelf command status text
 answers_command words shelf status text command is (inl h) = absurd (let e : None ≡ Some command = sym h.0 ∙ is in cc)
 answers_command words shelf status text command is (inr h) = subst (λ c. AnswersCommand shelf c status text) (some_same h.0 command (sym h.1 ∙ is)) h.2

@@ -12,9 +12,11 @@ use Rattle.ctl_text.specs.Text.{IsSpecText, IsRefused}
 use Rattle.solution_text.specs.Text.{IsSolutionText, IsRefused as IsSolutionRefused}
 use Rattle.skeleton_tool.specs.declared.status.Status.{Status}
 use Rattle.skeleton_tool.specs.declared.status.Status.TheVariants.{Done, Usage, Unsatisfiable, Fails, WriteFault, OutOfMemory}
-use Rattle.skeleton_tool.specs.Command.{Command, synth, prove, skel, replay, command_of, usage_text, spec_limit, solution_limit}
+use Rattle.skeleton_tool.specs.Command.{Command, synth, prove, skel, check, replay, migrate, command_of, usage_text, spec_limit, solution_limit}
 use Rattle.skeleton_tool.specs.Status.{code_of}
+use Rattle.skeleton_tool.specs.Check.{AnswersCertificate}
 use Rattle.skeleton_tool.specs.Failing.{NamesFailing}
+use Rattle.skeleton_tool.specs.Migrate.{Migrates}
 use Rattle.skeleton_tool.specs.Skel.{Skels}
 use Rattle.skeleton_tool.specs.Replay.{AnswersJournal}
 use Rattle.skeleton_tool.specs.Reading.{Grammar, IsUnread, ReadsAndAnswers}
@@ -62,6 +64,10 @@ AnswersKinds roles kinds status text = ⊥
 abbrev pub AnswersSynth : ShelfSeen → List ℕ → Status → List ℕ → Type 0
 AnswersSynth shelf file status text = ReadsAndAnswers spec_grammar (λ v. AnswersKinds v.roles v.kinds) shelf file status text
 
+-- the status and its text are an answer to `migrate` of this file
+abbrev pub AnswersMigrate : ShelfSeen → List ℕ → Status → List ℕ → Type 0
+AnswersMigrate shelf file status text = ReadsAndAnswers spec_grammar Migrates shelf file status text
+
 -- the structures solve, or the first kind that fails is named
 abbrev pub Proves : SpecParts → List Structure → Status → List ℕ → Type 0
 Proves v structures Done text = Solves v.roles v.kinds structures × (text ≡ codes "solves\n")
@@ -81,11 +87,13 @@ abbrev pub AnswersCommand : ShelfSeen → Command → Status → List ℕ → Ty
 AnswersCommand shelf (synth spec) status text = AnswersSynth shelf spec status text
 AnswersCommand shelf (prove spec sol) status text = AnswersBoth Proves shelf spec sol status text
 AnswersCommand shelf (skel spec sol) status text = AnswersBoth Skels shelf spec sol status text
+AnswersCommand shelf (check spec sol certificate) status text = AnswersBoth (AnswersCertificate shelf certificate) shelf spec sol status text
 AnswersCommand shelf (replay spec sol journal) status text = AnswersBoth (AnswersJournal shelf journal) shelf spec sol status text
+AnswersCommand shelf (migrate spec) status text = AnswersMigrate shelf spec status text
 
 -- the words are no command, and the usage is told; or they are one, and it is answered
-abbrev pub IsAnswer : List (List ℕ) → ShelfSeen → Status → List ℕ → Type 0
-IsAnswer words shelf status text = ((command_of words ≡ None) × (status ≡ Usage) × (text ≡ usage_text)) ⊎ ((command : Command) × (command_of words ≡ Some command) × AnswersCommand shelf command status text)
+abbrev pub AnswersWords : List (List ℕ) → ShelfSeen → Status → List ℕ → Type 0
+AnswersWords words shelf status text = ((command_of words ≡ None) × (status ≡ Usage) × (text ≡ usage_text)) ⊎ ((command : Command) × (command_of words ≡ Some command) × AnswersCommand shelf command status text)
 
 -- what is known of the sink before and after the call: its bytes, where they are told, and its count
 pub record SinkSeen : Type 0 where
@@ -101,9 +109,9 @@ sink_seen written faults old new = record { before = written old; after = writte
 -- what was written belongs to the status: its whole text; of a write fault, a prefix of another's; for want of memory,
 -- nothing
 abbrev pub IsOutcome : List (List ℕ) → ShelfSeen → SinkSeen → Status → Type 0
-IsOutcome words shelf sink WriteFault = (other : Status) × (text : List ℕ) × IsAnswer words shelf other text × Rose sink.faults_before sink.faults_after × AppendsPrefix sink.before sink.after text
+IsOutcome words shelf sink WriteFault = (other : Status) × (text : List ℕ) × AnswersWords words shelf other text × Rose sink.faults_before sink.faults_after × AppendsPrefix sink.before sink.after text
 IsOutcome words shelf sink OutOfMemory = sink.after ≡ sink.before
-IsOutcome words shelf sink status = (text : List ℕ) × IsAnswer words shelf status text × Appends sink.before sink.after text
+IsOutcome words shelf sink status = (text : List ℕ) × AnswersWords words shelf status text × Appends sink.before sink.after text
 
 -- the call ends with the number of a status, and what was written belongs to it
 abbrev pub IsPlanned : List (List ℕ) → ShelfSeen → SinkSeen → ℕ → Type 0

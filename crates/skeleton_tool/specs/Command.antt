@@ -1,19 +1,29 @@
 -- The words of a call, and the command that they are.
-use Rattle.std.specs.Prelude.{ℕ, ◌≡◌, All, ◌==◌, ◌&&◌, ◌||◌, not, Bool, false, Option, Some, None, List, [], ◌∷◌, codes, map, String, string_bytes, if◌then◌else◌}
+use Rattle.std.specs.Prelude.{ℕ, ◌≡◌, All, ◌==◌, ◌||◌, Bool, false, Option, Some, None, List, [], ◌∷◌, codes, map, String, string_bytes, if◌then◌else◌}
 use Rattle.std.specs.declared.alloc.Global.{Global}
 use Rattle.std.specs.Str.{bytes_eq}
 
--- each with its files: a specification, behind it for all but `synth` a solution, and for `replay` a journal
+-- each with its files: a specification, behind it for all but `synth` and `migrate` a solution, for `check` a
+-- certificate, and for `replay` a journal
 pub data Command : Type 0 where
   synth : List ℕ → Command
   prove : List ℕ → List ℕ → Command
   skel : List ℕ → List ℕ → Command
+  check : List ℕ → List ℕ → List ℕ → Command
   replay : List ℕ → List ℕ → List ℕ → Command
+  migrate : List ℕ → Command
 
 -- 45 is '-'
 abbrev pub begins_with_dash : List ℕ → Bool
 begins_with_dash [] = false
 begins_with_dash (first ∷ rest) = first == 45
+
+-- the commands over a specification
+abbrev pub command_with : List ℕ → List ℕ → Option Command
+command_with name spec =
+    if begins_with_dash spec then None else
+    if bytes_eq name (codes "synth") then Some (synth spec) else
+    if bytes_eq name (codes "migrate") then Some (migrate spec) else None
 
 -- the commands over a specification and a solution
 abbrev pub command_on : List ℕ → List ℕ → List ℕ → Option Command
@@ -22,17 +32,18 @@ command_on name spec sol =
     if bytes_eq name (codes "prove") then Some (prove spec sol) else
     if bytes_eq name (codes "skel") then Some (skel spec sol) else None
 
--- the command over a specification, a solution and a journal
+-- the commands over a specification, a solution and a third file
 abbrev pub command_over : List ℕ → List ℕ → List ℕ → List ℕ → Option Command
-command_over name spec sol journal =
-    if begins_with_dash spec || begins_with_dash sol || begins_with_dash journal then None else
-    if bytes_eq name (codes "replay") then Some (replay spec sol journal) else None
+command_over name spec sol file =
+    if begins_with_dash spec || begins_with_dash sol || begins_with_dash file then None else
+    if bytes_eq name (codes "check") then Some (check spec sol file) else
+    if bytes_eq name (codes "replay") then Some (replay spec sol file) else None
 
 -- the name of the command, and as many words as it takes, of which none begins with a dash
 abbrev pub command_of : List (List ℕ) → Option Command
-command_of (name ∷ spec ∷ []) = if bytes_eq name (codes "synth") && not (begins_with_dash spec) then Some (synth spec) else None
+command_of (name ∷ spec ∷ []) = command_with name spec
 command_of (name ∷ spec ∷ sol ∷ []) = command_on name spec sol
-command_of (name ∷ spec ∷ sol ∷ journal ∷ []) = command_over name spec sol journal
+command_of (name ∷ spec ∷ sol ∷ file ∷ []) = command_over name spec sol file
 command_of words = None
 
 -- the words of a command: its name, and behind it its files
@@ -40,7 +51,9 @@ abbrev pub words_for : Command → List (List ℕ)
 words_for (synth spec) = codes "synth" ∷ spec ∷ []
 words_for (prove spec sol) = codes "prove" ∷ spec ∷ sol ∷ []
 words_for (skel spec sol) = codes "skel" ∷ spec ∷ sol ∷ []
+words_for (check spec sol certificate) = codes "check" ∷ spec ∷ sol ∷ certificate ∷ []
 words_for (replay spec sol journal) = codes "replay" ∷ spec ∷ sol ∷ journal ∷ []
+words_for (migrate spec) = codes "migrate" ∷ spec ∷ []
 
 abbrev pub NoDash : List ℕ → Type 0
 NoDash word = begins_with_dash word ≡ false
@@ -58,7 +71,7 @@ abbrev pub words_of : List (String Global) → List (List ℕ)
 words_of = map string_bytes
 
 abbrev pub usage_text : List ℕ
-usage_text = codes "usage:\n  synth SPEC\n  prove SPEC SOL\n  skel SPEC SOL\n  replay SPEC SOL JOURNAL\n"
+usage_text = codes "usage:\n  synth SPEC\n  prove SPEC SOL\n  skel SPEC SOL\n  check SPEC SOL CERT\n  replay SPEC SOL JOURNAL\n  migrate SPEC\n"
 
 -- the most bytes that a specification may have
 abbrev pub spec_limit : ℕ
@@ -67,6 +80,10 @@ spec_limit = 1048576
 -- the most bytes that a solution may have
 abbrev pub solution_limit : ℕ
 solution_limit = 67108864
+
+-- the most bytes that a certificate may have
+abbrev pub certificate_limit : ℕ
+certificate_limit = 67108864
 
 -- the most bytes that a journal may have
 abbrev pub journal_limit : ℕ
@@ -77,5 +94,7 @@ abbrev pub asked_files : Option Command → List (List ℕ × ℕ)
 asked_files (Some (synth spec)) = (spec, spec_limit) ∷ []
 asked_files (Some (prove spec sol)) = (spec, spec_limit) ∷ (sol, solution_limit) ∷ []
 asked_files (Some (skel spec sol)) = (spec, spec_limit) ∷ (sol, solution_limit) ∷ []
+asked_files (Some (check spec sol certificate)) = (spec, spec_limit) ∷ (sol, solution_limit) ∷ (certificate, certificate_limit) ∷ []
 asked_files (Some (replay spec sol journal)) = (spec, spec_limit) ∷ (sol, solution_limit) ∷ (journal, journal_limit) ∷ []
+asked_files (Some (migrate spec)) = (spec, spec_limit) ∷ []
 asked_files None = []

@@ -12,11 +12,15 @@ use Rattle.firing_journal.specs.Replay.{LeavesWhole, IsFirstStuck}
 use Rattle.ctl_form.specs.Kind.{Solves}
 use Rattle.ctl_text.specs.Value.{SpecParts}
 use Rattle.solution_text.specs.Failing.{IsFirstFailing}
+use Rattle.waitfor_check.specs.declared.star.Star.{Star}
+use Rattle.waitfor_check.specs.Accepted.{IsAccepted}
 use Rattle.skeleton_tool.specs.Answer.{SinkSeen, IsFirstUnsatisfiable, spec_grammar, solution_grammar}
-use Rattle.skeleton_tool.specs.Command.{Command, synth, prove, skel, replay, command_of}
+use Rattle.skeleton_tool.specs.Check.{certificate_grammar}
+use Rattle.skeleton_tool.specs.Command.{Command, synth, prove, skel, check, replay, migrate, command_of}
 use Rattle.skeleton_tool.specs.Reading.{IsTold}
-use Rattle.skeleton_tool.specs.Replay.{IsSystemOf, journal_grammar}
+use Rattle.skeleton_tool.specs.Replay.{journal_grammar}
 use Rattle.skeleton_tool.specs.Taking.{ShelfSeen}
+use Rattle.skeleton_tool.specs.Third.{IsSystemOf}
 
 -- the words are this command, the shelf's files are told, and no count rose
 pub record IsUnhindered (words : List (List ℕ)) (shelf : ShelfSeen) (sink : SinkSeen) (command : Command) (files : List (List ℕ × List ℕ)) : Type 0 where
@@ -48,6 +52,16 @@ abbrev pub DecidesSkel : List (List ℕ) → ShelfSeen → SinkSeen → ℕ → 
 DecidesSkel words shelf sink code = (files : List (List ℕ × List ℕ)) (spec sol : List ℕ) (v : SpecParts) (structures : List Structure)
     → IsUnhindered words shelf sink (skel spec sol) files → IsTold spec_grammar files spec v → IsTold (solution_grammar v) files sol structures → Solves v.roles v.kinds structures → (code ≡ 8) ⊎ (code ≡ 0)
 
+-- 0 where the certificate is accepted, else 4; or want of memory, 8
+abbrev pub DecidesStars : SystemParts → List Star → ℕ → Type 0
+DecidesStars sys stars code = (code ≡ 8) ⊎ (((code ≡ 0) × IsAccepted sys stars) ⊎ ((code ≡ 4) × (IsAccepted sys stars → ⊥)))
+
+-- each certificate is decided for a solution that solves, where nothing hinders it
+abbrev pub DecidesCheck : List (List ℕ) → ShelfSeen → SinkSeen → ℕ → Type 0
+DecidesCheck words shelf sink code = (files : List (List ℕ × List ℕ)) (spec sol certificate : List ℕ) (v : SpecParts) (structures : List Structure) (sys : SystemParts) (stars : List Star)
+    → IsUnhindered words shelf sink (check spec sol certificate) files → IsTold spec_grammar files spec v → IsTold (solution_grammar v) files sol structures → IsSystemOf v structures sys → IsTold (certificate_grammar v sys) files certificate stars → Solves v.roles v.kinds structures
+    → DecidesStars sys stars code
+
 -- 0 where the wishes are a run, else 4; or want of memory, 8
 abbrev pub DecidesRun : SystemParts → List Wish → ℕ → Type 0
 DecidesRun sys run code = (code ≡ 8) ⊎ (((code ≡ 0) × ((whole : WholeParts) × (moves : List ℕ) × LeavesWhole sys run whole moves)) ⊎ ((code ≡ 4) × ((at : ℕ) × (why : StepAnswer) × IsFirstStuck sys run at why)))
@@ -58,9 +72,15 @@ DecidesReplay words shelf sink code = (files : List (List ℕ × List ℕ)) (spe
     → IsUnhindered words shelf sink (replay spec sol journal) files → IsTold spec_grammar files spec v → IsTold (solution_grammar v) files sol structures → IsSystemOf v structures sys → IsTold (journal_grammar sys) files journal entries → Solves v.roles v.kinds structures
     → DecidesRun sys (wishes_of entries) code
 
+-- each specification is written, where nothing hinders it
+abbrev pub DecidesMigrate : List (List ℕ) → ShelfSeen → SinkSeen → ℕ → Type 0
+DecidesMigrate words shelf sink code = (files : List (List ℕ × List ℕ)) (spec : List ℕ) (v : SpecParts) → IsUnhindered words shelf sink (migrate spec) files → IsTold spec_grammar files spec v → (code ≡ 8) ⊎ (code ≡ 0)
+
 -- what each command owes
 pub record Decides (words : List (List ℕ)) (shelf : ShelfSeen) (sink : SinkSeen) (code : ℕ) : Type 0 where
   pub decides_synth : DecidesSynth words shelf sink code
   pub decides_prove : DecidesProve words shelf sink code
   pub decides_skel : DecidesSkel words shelf sink code
+  pub decides_check : DecidesCheck words shelf sink code
   pub decides_replay : DecidesReplay words shelf sink code
+  pub decides_migrate : DecidesMigrate words shelf sink code

@@ -3,18 +3,28 @@
 use Rattle.std.specs.Prelude.{ℕ, ◌≡◌, ◌⊎◌, Some, List, codes}
 use Rattle.edge_io.specs.Told.{Appends}
 use Rattle.pair_structure.specs.Structure.{Structure}
+use Rattle.conjunctive_compose.specs.declared.wish.Wish.{Wish}
+use Rattle.conjunctive_compose.specs.Run.{IsRun, whole_after}
 use Rattle.conjunctive_compose.specs.System.{SystemParts}
+use Rattle.conjunctive_compose.specs.Whole.{start_of}
 use Rattle.firing_journal.specs.declared.journal.Entry.{Entry}
 use Rattle.firing_journal.specs.Journal.{wishes_of}
 use Rattle.ctl_form.specs.Kind.{Solves}
 use Rattle.ctl_text.specs.Value.{SpecParts}
+use Rattle.waitfor_check.specs.declared.star.Star.{Star}
+use Rattle.waitfor_check.specs.Accepted.{IsAccepted}
+use Rattle.waitfor_check.specs.Laws.{GoesOn}
+use Rattle.skeleton_tool.specs.declared.status.Status.TheVariants.{Fails}
 use Rattle.skeleton_tool.specs.Answer.{SinkSeen, IsSolved, IsUnsolvable, spec_grammar, solution_grammar}
-use Rattle.skeleton_tool.specs.Command.{Command, synth, prove, skel, replay, command_of}
+use Rattle.skeleton_tool.specs.Check.{TellsVerdict, certificate_grammar}
+use Rattle.skeleton_tool.specs.Command.{Command, synth, prove, skel, check, replay, migrate, command_of}
 use Rattle.skeleton_tool.specs.Failing.{NamesFailing}
+use Rattle.skeleton_tool.specs.Migrate.{IsMigrated}
 use Rattle.skeleton_tool.specs.Reading.{IsTold}
-use Rattle.skeleton_tool.specs.Replay.{IsSystemOf, TellsRun, TellsStuck, journal_grammar}
+use Rattle.skeleton_tool.specs.Replay.{TellsRun, TellsStuck, journal_grammar}
 use Rattle.skeleton_tool.specs.Skel.{ShowsSkeletons}
 use Rattle.skeleton_tool.specs.Taking.{ShelfSeen}
+use Rattle.skeleton_tool.specs.Third.{IsSystemOf}
 
 -- the words are this command, and the shelf tells these files
 pub record IsCalled (words : List (List ℕ)) (shelf : ShelfSeen) (command : Command) (files : List (List ℕ × List ℕ)) : Type 0 where
@@ -46,6 +56,17 @@ SkelShows words shelf sink code = (files : List (List ℕ × List ℕ)) (spec so
     → IsCalled words shelf (skel spec sol) files → IsTold spec_grammar files spec v → IsTold (solution_grammar v) files sol structures
     → (code ≡ 0 → Solves v.roles v.kinds structures × Writes sink (ShowsSkeletons v structures)) × (code ≡ 4 → Writes sink (NamesFailing v structures))
 
+-- each run of the system ends in a whole state with a peel order, which so enables a process, if there is one
+abbrev pub RunsGoOn : SystemParts → Type 0
+RunsGoOn sys = (wishes : List Wish) → IsRun sys (start_of sys) wishes → GoesOn sys (whole_after sys (start_of sys) wishes)
+
+-- `check` with 0: the solution solves, the certificate is accepted, and so no run of the one system ends where nobody
+-- may go on. With 4: the solution solves, and the first part of the test that fails is told; or as `prove`
+abbrev pub CheckJudges : List (List ℕ) → ShelfSeen → SinkSeen → ℕ → Type 0
+CheckJudges words shelf sink code = (files : List (List ℕ × List ℕ)) (spec sol certificate : List ℕ) (v : SpecParts) (structures : List Structure) (sys : SystemParts) (stars : List Star)
+    → IsCalled words shelf (check spec sol certificate) files → IsTold spec_grammar files spec v → IsTold (solution_grammar v) files sol structures → IsSystemOf v structures sys → IsTold (certificate_grammar v sys) files certificate stars
+    → (code ≡ 0 → Solves v.roles v.kinds structures × IsAccepted sys stars × RunsGoOn sys × Writes sink (λ text. text ≡ codes "accepted\n")) × (code ≡ 4 → Writes sink (λ text. (Solves v.roles v.kinds structures × TellsVerdict sys stars Fails text) ⊎ NamesFailing v structures text))
+
 -- `replay` with 0: the solution solves, the journal's wishes are a run of the one system, and what it leaves is told.
 -- With 4: the solution solves, and the first wish that does not move is told; or as `prove`
 abbrev pub ReplayTells : List (List ℕ) → ShelfSeen → SinkSeen → ℕ → Type 0
@@ -53,10 +74,16 @@ ReplayTells words shelf sink code = (files : List (List ℕ × List ℕ)) (spec 
     → IsCalled words shelf (replay spec sol journal) files → IsTold spec_grammar files spec v → IsTold (solution_grammar v) files sol structures → IsSystemOf v structures sys → IsTold (journal_grammar sys) files journal entries
     → (code ≡ 0 → Solves v.roles v.kinds structures × Writes sink (TellsRun sys (wishes_of entries))) × (code ≡ 4 → Writes sink (λ text. (Solves v.roles v.kinds structures × TellsStuck sys (wishes_of entries) text) ⊎ NamesFailing v structures text))
 
+-- `migrate` with 0: the canonical text of the specification
+abbrev pub MigrateWrites : List (List ℕ) → ShelfSeen → SinkSeen → ℕ → Type 0
+MigrateWrites words shelf sink code = (files : List (List ℕ × List ℕ)) (spec : List ℕ) (v : SpecParts) → IsCalled words shelf (migrate spec) files → IsTold spec_grammar files spec v → code ≡ 0 → Writes sink (IsMigrated v)
+
 -- what is promised of each command
 pub record Promises (words : List (List ℕ)) (shelf : ShelfSeen) (sink : SinkSeen) (code : ℕ) : Type 0 where
   pub synth_solves : SynthSolves words shelf sink code
   pub synth_finds_none : SynthFindsNone words shelf sink code
   pub prove_judges : ProveJudges words shelf sink code
   pub skel_shows : SkelShows words shelf sink code
+  pub check_judges : CheckJudges words shelf sink code
   pub replay_tells : ReplayTells words shelf sink code
+  pub migrate_writes : MigrateWrites words shelf sink code

@@ -1,8 +1,10 @@
 pub mod Answer
+pub mod Check
 pub mod Command
 pub mod Complete
 pub mod Failing
 pub mod Headline
+pub mod Migrate
 pub mod OneAnswer
 pub mod Reading
 pub mod Refusal
@@ -10,4 +12,5 @@ pub mod Replay
 pub mod Skel
 pub mod Status
 pub mod Taking
+pub mod Third
 pub mod inside

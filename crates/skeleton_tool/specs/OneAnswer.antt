@@ -3,7 +3,7 @@ use Rattle.std.specs.Prelude.{ℕ, ◌≡◌, Option, Some, List}
 use Rattle.edge_io.specs.Counts.{Rose}
 use Rattle.skeleton_tool.specs.declared.status.Status.{Status}
 use Rattle.skeleton_tool.specs.declared.status.Status.TheVariants.{Done, Usage, Refused, Unsatisfiable, Fails, ReadFault, WriteFault, OutOfMemory}
-use Rattle.skeleton_tool.specs.Answer.{IsAnswer}
+use Rattle.skeleton_tool.specs.Answer.{AnswersWords}
 use Rattle.skeleton_tool.specs.Command.{Command, synth, prove, skel, replay, command_of}
 use Rattle.skeleton_tool.specs.Taking.{ShelfSeen}
 
@@ -20,4 +20,4 @@ pub record AreOne (choice : Type 0) (one other : Status) (text written : List �
 -- two answers to the same words, over a shelf whose files are told and of which no count rose, are one
 abbrev pub OneAnswer : Type 0
 OneAnswer = (words : List (List ℕ)) (shelf : ShelfSeen) (files : List (List ℕ × List ℕ)) (one other : Status) (text written : List ℕ)
-    → shelf.files ≡ Some files → (Rose shelf.faults_before shelf.faults_after → ⊥) → (Rose shelf.longs_before shelf.longs_after → ⊥) → IsAnswer words shelf one text → IsAnswer words shelf other written → AreOne (IsChoice (command_of words) one) one other text written
+    → shelf.files ≡ Some files → (Rose shelf.faults_before shelf.faults_after → ⊥) → (Rose shelf.longs_before shelf.longs_after → ⊥) → AnswersWords words shelf one text → AnswersWords words shelf other written → AreOne (IsChoice (command_of words) one) one other text written

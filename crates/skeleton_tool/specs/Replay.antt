@@ -7,30 +7,21 @@ use Rattle.skeleton_extract.specs.SkeletonText.{name_at}
 use Rattle.conjunctive_compose.specs.declared.wish.Wish.{Wish}
 use Rattle.conjunctive_compose.specs.declared.wish.StepAnswer.{StepAnswer}
 use Rattle.conjunctive_compose.specs.declared.wish.StepAnswer.TheVariants.{Moved, Away, Blocked}
-use Rattle.conjunctive_compose.specs.System.{SystemParts, IsSystem, edge_at, edge_count, process_count, role_of}
+use Rattle.conjunctive_compose.specs.System.{SystemParts, edge_at, edge_count, process_count, role_of}
 use Rattle.conjunctive_compose.specs.Whole.{WholeParts, HasPair, local_at}
 use Rattle.firing_journal.specs.declared.journal.Entry.{Entry}
 use Rattle.firing_journal.specs.Journal.{wishes_of}
 use Rattle.firing_journal.specs.Replay.{LeavesWhole, IsFirstStuck, wish_at}
 use Rattle.firing_journal.specs.Text.{IsJournalText, IsRefused}
 use Rattle.ctl_form.specs.Kind.{Solves}
-use Rattle.ctl_text.specs.Value.{SpecParts, network_of, process_at}
+use Rattle.ctl_text.specs.Value.{SpecParts, process_at}
 use Rattle.skeleton_tool.specs.declared.status.Status.{Status}
 use Rattle.skeleton_tool.specs.declared.status.Status.TheVariants.{Done, Fails}
 use Rattle.skeleton_tool.specs.Command.{journal_limit}
 use Rattle.skeleton_tool.specs.Failing.{NamesFailing}
-use Rattle.skeleton_tool.specs.Reading.{Grammar, ReadsAndAnswers}
+use Rattle.skeleton_tool.specs.Reading.{Grammar}
 use Rattle.skeleton_tool.specs.Taking.{ShelfSeen}
-
--- the processes of the specification, run by the commands of these structures
-pub record IsSystemOf (v : SpecParts) (structures : List Structure) (sys : SystemParts) : Type 0 where
-  pub network : sys.network ≡ network_of v
-  pub structures_are : sys.structures ≡ structures
-  pub system : IsSystem sys
-
--- a specification and structures make one system
-abbrev pub OneSystem : Type 0
-OneSystem = (v : SpecParts) (structures : List Structure) (one other : SystemParts) → IsSystemOf v structures one → IsSystemOf v structures other → one ≡ other
+use Rattle.skeleton_tool.specs.Third.{AnswersThird, AnswersValue}
 
 -- a journal for this system
 abbrev pub journal_grammar : SystemParts → Grammar (List Entry)
@@ -106,7 +97,9 @@ ReplaysWishes sys run status text = ⊥
 abbrev pub Replays : SpecParts → List Structure → SystemParts → List Wish → Status → List ℕ → Type 0
 Replays v structures sys run status text = (Solves v.roles v.kinds structures × ReplaysWishes sys run status text) ⊎ ((status ≡ Fails) × NamesFailing v structures text)
 
--- the status and its text are an answer to this file as a journal of the system of the solution; it is read before the
--- solution is judged
+abbrev pub ReplaysJournal : AnswersValue (List Entry)
+ReplaysJournal v structures sys entries = Replays v structures sys (wishes_of entries)
+
+-- the status and its text are an answer to this file as a journal of the system of the solution
 abbrev pub AnswersJournal : ShelfSeen → List ℕ → SpecParts → List Structure → Status → List ℕ → Type 0
-AnswersJournal shelf file v structures status text = (sys : SystemParts) × IsSystemOf v structures sys × ReadsAndAnswers (journal_grammar sys) (λ entries. Replays v structures sys (wishes_of entries)) shelf file status text
+AnswersJournal = AnswersThird (λ v. journal_grammar) ReplaysJournal

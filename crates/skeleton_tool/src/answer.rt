@@ -1,10 +1,12 @@
 ghost use Rattle.std.specs.Prelude.{◌≡◌, ◌<◌, [], IfOk, All, length, Some};
-ghost use Rattle.skeleton_tool.specs.Answer.{IsAnswer, AnswersCommand};
+ghost use Rattle.skeleton_tool.specs.Answer.{AnswersWords, AnswersCommand};
 ghost use Rattle.skeleton_tool.specs.Command.{command_of, asked_files, words_of};
 ghost use Rattle.skeleton_tool.specs.Taking.{shelf_seen, EndsAs, KeepsShelf};
 ghost use Rattle.skeleton_tool.specs.inside.View.{command_value};
 
+use crate::checking::check;
 use crate::command::{Command, command_in};
+use crate::migrating::migrate;
 use crate::proving::prove;
 use crate::replaying::replay;
 use crate::showing::skel;
@@ -24,7 +26,7 @@ pub(crate) fn answer<S: Shelf>(
 ) -> Result<Status, Memory>
     requires allowed { All (λ file. S.may_ask shelf.old file.0 file.1) (asked_files (command_of (words_of words.now))) }
     requires empty { text.old.items ≡ [] }
-    ensures answer { IfOk result (λ status. IsAnswer (words_of words.now) (shelf_seen S.files S.faults S.longs shelf.old shelf.new) status text.new.items) }
+    ensures answer { IfOk result (λ status. AnswersWords (words_of words.now) (shelf_seen S.files S.faults S.longs shelf.old shelf.new) status text.new.items) }
     ensures some { IfOk result (λ status. 0 < length text.new.items) }
     ensures kept { KeepsShelf S.files S.faults S.longs S.may_ask shelf.old shelf.new }
 {
@@ -38,7 +40,7 @@ pub(crate) fn answer<S: Shelf>(
         }
         None => {
             text.extend_from_slice(
-                b"usage:\n  synth SPEC\n  prove SPEC SOL\n  skel SPEC SOL\n  replay SPEC SOL JOURNAL\n",
+                b"usage:\n  synth SPEC\n  prove SPEC SOL\n  skel SPEC SOL\n  check SPEC SOL CERT\n  replay SPEC SOL JOURNAL\n  migrate SPEC\n",
             )?;
             Ok(Status::Usage)
         }
@@ -70,6 +72,13 @@ fn answer_command<S: Shelf>(
             let status = skel(alloc, spec, sol, shelf, text)?;
             Ok(status)
         }
+        Command::Check(spec, sol, certificate) => {
+            check(alloc, spec, sol, certificate, shelf, text)
+        }
         Command::Replay(spec, sol, journal) => replay(alloc, spec, sol, journal, shelf, text),
+        Command::Migrate(spec) => {
+            let status = migrate(alloc, spec, shelf, text)?;
+            Ok(status)
+        }
     }
 }

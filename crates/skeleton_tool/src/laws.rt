@@ -1,6 +1,6 @@
 ghost use Rattle.skeleton_tool.specs.Command.{NamesCommands};
 ghost use Rattle.skeleton_tool.specs.OneAnswer.{OneAnswer};
-ghost use Rattle.skeleton_tool.specs.Replay.{OneSystem};
+ghost use Rattle.skeleton_tool.specs.Third.{OneSystem};
 
 /// Words are a command exactly where they are its name and its files, and none of them begins with a dash.
 pub fn names_commands()

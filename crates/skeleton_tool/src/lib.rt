@@ -3,9 +3,11 @@
 
 mod answer;
 mod call;
+mod checking;
 mod command;
 mod failing;
 mod laws;
+mod migrating;
 mod proving;
 mod reading;
 mod refusal;
@@ -17,6 +19,8 @@ mod status;
 mod stop;
 mod synthesis;
 mod taking;
+mod third;
+mod verdict_text;
 
 pub use call::plan;
 pub use laws::{names_commands, one_answer, one_system};

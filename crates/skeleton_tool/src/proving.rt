@@ -29,12 +29,17 @@ pub(crate) fn prove<S: Shelf>(
     ensures kept { KeepsShelf S.files S.faults S.longs S.may_ask shelf.old shelf.new }
 {
     let (spec, sol) = take_both(alloc, spec, sol, shelf, text)?;
-    let status = judge(alloc, &spec, &sol, text)?;
+    let status = tell_solving(alloc, &spec, &sol, text)?;
     Ok(status)
 }
 
 /// Writes whether the solution solves, or the first kind that fails.
-fn judge(alloc: Global, spec: &Spec, sol: &Solution, text: &mut Vec<u8>) -> Result<Status, Memory>
+fn tell_solving(
+    alloc: Global,
+    spec: &Spec,
+    sol: &Solution,
+    text: &mut Vec<u8>,
+) -> Result<Status, Memory>
     requires over { AreOver spec.now.roles spec.now.kinds sol.now }
     requires empty { text.old.items ≡ [] }
     ensures answer { IfOk result (λ status. Proves spec.now sol.now status text.new.items) }

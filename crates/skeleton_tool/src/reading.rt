@@ -1,27 +1,35 @@
 ghost use Rattle.std.specs.Prelude.{◌≡◌, [], IfOk, IfErr, OnOk};
+ghost use Rattle.ctl_text.specs.Value.{network_of};
 ghost use Rattle.firing_journal.specs.Journal.{JournalFits};
 ghost use Rattle.skeleton_tool.specs.Answer.{spec_grammar, solution_grammar, NotRead};
-ghost use Rattle.skeleton_tool.specs.Command.{spec_limit, solution_limit, journal_limit};
+ghost use Rattle.skeleton_tool.specs.Check.{certificate_grammar};
+ghost use Rattle.skeleton_tool.specs.Command.{spec_limit, solution_limit, certificate_limit, journal_limit};
 ghost use Rattle.skeleton_tool.specs.Reading.{IsRead, IsUnread};
 ghost use Rattle.skeleton_tool.specs.Replay.{journal_grammar};
 ghost use Rattle.skeleton_tool.specs.Taking.{shelf_seen, KeepsShelf, StopsAs};
 ghost use Rattle.solution_text.specs.SolutionText.{AreOver};
+ghost use Rattle.waitfor_check.specs.Fitting.{Fits};
 
 use crate::refusal::refuse;
 use crate::stop::Stop;
 use crate::taking::take_file;
+use certificate_text::read_certificate;
 use conjunctive_compose::System;
 use ctl_text::{Spec, read_spec};
 use edge_io::Shelf;
 use firing_journal::{Journal, read_journal};
 use solution_text::{Solution, read_solution};
 use std::alloc::Global;
+use waitfor_check::Certificate;
 
 /// The most bytes that a specification may have.
 const MAX_SPEC: u64 = 1_048_576;
 
 /// The most bytes that a solution may have.
 const MAX_SOLUTION: u64 = 67_108_864;
+
+/// The most bytes that a certificate may have.
+const MAX_CERTIFICATE: u64 = 67_108_864;
 
 /// The most bytes that a journal may have.
 const MAX_JOURNAL: u64 = 536_870_912;
@@ -116,5 +124,30 @@ pub(crate) fn take_journal<S: Shelf>(
     match read_journal(alloc, system, &bytes) {
         Ok(journal) => Ok(journal),
         Err(fault) => Err(refuse("journal", fault, text)),
+    }
+}
+
+/// Takes the file of a certificate, and reads it as one of this system, which is one of the specification.
+pub(crate) fn take_certificate<S: Shelf>(
+    alloc: Global,
+    spec: &Spec,
+    system: &System,
+    file: &str,
+    shelf: &mut S,
+    text: &mut Vec<u8>,
+) -> Result<Certificate, Stop>
+    requires allowed { S.may_ask shelf.old file.now certificate_limit }
+    requires network { system.now.network ≡ network_of spec.now }
+    requires empty { text.old.items ≡ [] }
+    ensures read { IfOk result (IsRead (certificate_grammar spec.now system.now) (S.files shelf.old) file.now) }
+    ensures fits { IfOk result (Fits system.now) }
+    ensures nothing { OnOk result (text.new.items ≡ []) }
+    ensures stopped { IfErr result (StopsAs (IsUnread (certificate_grammar spec.now system.now) (shelf_seen S.files S.faults S.longs shelf.old shelf.new) file.now) text.new.items) }
+    ensures kept { KeepsShelf S.files S.faults S.longs S.may_ask shelf.old shelf.new }
+{
+    let bytes = take_file(alloc, file, MAX_CERTIFICATE, "certificate", shelf, text)?;
+    match read_certificate(alloc, spec, system, &bytes) {
+        Ok(certificate) => Ok(certificate),
+        Err(fault) => Err(refuse("certificate", fault, text)),
     }
 }

@@ -1,11 +1,10 @@
 ghost use Rattle.std.specs.Prelude.{◌≡◌, ◌<◌, [], IfOk, length};
-ghost use Rattle.conjunctive_compose.specs.System.{HasStructures, IsSystem};
+ghost use Rattle.conjunctive_compose.specs.System.{IsSystem};
 ghost use Rattle.conjunctive_compose.specs.Whole.{IsProper};
-ghost use Rattle.ctl_text.specs.Value.{network_of};
 ghost use Rattle.firing_journal.specs.Journal.{JournalFits, wishes_of};
 ghost use Rattle.skeleton_tool.specs.Answer.{AnswersBoth};
 ghost use Rattle.skeleton_tool.specs.Command.{spec_limit, solution_limit, journal_limit};
-ghost use Rattle.skeleton_tool.specs.Replay.{AnswersJournal, AreStates, IsSystemOf, Replays, ReplaysWishes};
+ghost use Rattle.skeleton_tool.specs.Replay.{AnswersJournal, AreStates, Replays, ReplaysWishes};
 ghost use Rattle.skeleton_tool.specs.Taking.{shelf_seen, EndsAs, KeepsShelf};
 ghost use Rattle.solution_text.specs.SolutionText.{AreOver};
 
@@ -14,6 +13,7 @@ use crate::reading::{take_both, take_journal};
 use crate::run_text::{write_run, write_stuck};
 use crate::status::Status;
 use crate::stop::Stop;
+use crate::third::system_of;
 use conjunctive_compose::{System, Whole};
 use ctl_text::Spec;
 use edge_io::Shelf;
@@ -45,20 +45,12 @@ pub(crate) fn replay<S: Shelf>(
         Ok(journal) => journal,
         Err(stop) => return Err(stop),
     };
-    let status = judge(alloc, &spec, &sol, &system, &journal, text)?;
+    let status = tell_replay(alloc, &spec, &sol, &system, &journal, text)?;
     Ok(status)
 }
 
-/// The processes of the specification, run by the commands of the solution's structures.
-fn system_of(alloc: Global, spec: &Spec, sol: &Solution) -> Result<System, Memory>
-    requires { HasStructures (network_of spec.now) sol.now }
-    ensures { IfOk result (IsSystemOf spec.now sol.now) }
-{
-    System::make(alloc, spec.network(), sol.structures())
-}
-
 /// Writes what the journal is where the solution solves, or the first kind that fails.
-fn judge(
+fn tell_replay(
     alloc: Global,
     spec: &Spec,
     sol: &Solution,

@@ -166,7 +166,7 @@ fn write_blocked(
     Ok(())
 }
 
-fn process_name(system: &System, process: u32) -> &Name
+pub(crate) fn process_name(system: &System, process: u32) -> &Name
     requires { process < process_count system.now }
     ensures { result.now ≡ process_name system.now process }
 {
@@ -195,14 +195,14 @@ fn locals_of(system: &System, process: u32) -> &[Name]
     network.roles()[role as usize].locals()
 }
 
-fn write_name(name: &Name, into: &mut Vec<u8>) -> Result<(), AllocError>
+pub(crate) fn write_name(name: &Name, into: &mut Vec<u8>) -> Result<(), AllocError>
     ensures { OnOk result (into.new.items ≡ into.old.items ++ name.now) }
 {
     into.extend_from_slice(name.as_str().as_bytes())?;
     Ok(())
 }
 
-fn write_number(n: u64, into: &mut Vec<u8>) -> Result<(), AllocError>
+pub(crate) fn write_number(n: u64, into: &mut Vec<u8>) -> Result<(), AllocError>
     ensures { OnOk result (into.new.items ≡ into.old.items ++ decimal n) }
 {
     let mut buffer = Buffer::new();
