@@ -17,26 +17,35 @@ const KIND: &str = "kind k phil phil/require AG !(a.C & b.C)/end/process p phil/
 const SOLUTION: &str =
     "solution 1/kind k/state N N/state T N/state N T/state C N/state T T/state N C/state C T/state T C/move 0 a 1/move 0 b 2/move 1 a 3/move 1 b 4/move 2 a 4/move 2 b 5/move 3 a 0/move 3 b 6/move 4 a 6/move 5 a 7/move 5 b 0/move 6 a 2/move 7 b 1/end/done/";
 
+/// A certificate for one process: it has no neighbour, so no star is asked for.
+const CERTIFICATE: &str = "certificate 1/done/";
+
 const JOURNAL: &str = "journal 1/entry 0 0 0 0 0/done/";
 
 /// The number of the call of the shelf that fails and that of the put that fails, and the words; then the status and
 /// what is written.
 const CALLS: &str = "9 9 prove spec sol = 0 solves/
+9 9 check spec sol cert = 0 accepted/
 9 9 replay spec sol journal = 0 run 1/process p T 1/done/
 9 9 synth other = 5 read fault spec/
+9 9 check spec sol other = 5 read fault certificate/
 9 9 replay spec sol other = 5 read fault journal/
 0 9 synth spec = 5 read fault spec/
 0 9 prove spec sol = 5 read fault spec/
 1 9 prove spec sol = 5 read fault solution/
 1 9 skel spec sol = 5 read fault solution/
+2 9 check spec sol cert = 5 read fault certificate/
 2 9 replay spec sol journal = 5 read fault journal/
+0 9 migrate spec = 5 read fault spec/
 9 0 synth spec = 6
 9 0 prove spec sol = 6
 9 0 skel spec sol = 6
+9 0 check spec sol cert = 6
 9 0 replay spec sol journal = 6
+9 0 migrate spec = 6
 9 0 synth other = 6
 9 0 synth = 6
-9 9 synth - = 1 usage:/  synth SPEC/  prove SPEC SOL/  skel SPEC SOL/  replay SPEC SOL JOURNAL/";
+9 9 synth - = 1 usage:/  synth SPEC/  prove SPEC SOL/  skel SPEC SOL/  check SPEC SOL CERT/  replay SPEC SOL JOURNAL/  migrate SPEC/";
 
 fn files(alloc: Global) -> Result<Vec<(String, Vec<u8>)>, Fail> {
     let spec = format!(in alloc; "pairs 1/{PHIL}{KIND}done/")?;
@@ -44,6 +53,7 @@ fn files(alloc: Global) -> Result<Vec<(String, Vec<u8>)>, Fail> {
     for (name, text) in [
         ("spec", spec.as_str()),
         ("sol", SOLUTION),
+        ("cert", CERTIFICATE),
         ("journal", JOURNAL),
     ] {
         let text = to_lines(alloc, text)?;

@@ -1,10 +1,13 @@
 //! Systems: what wishes are answered, one after another from the start, and what a whole state permits.
 
+ghost use Rattle.std.specs.Prelude.{IfOk};
 ghost use Rattle.conjunctive_compose.specs.Whole.{IsProper};
 
 use crate::table::{agree, expect};
 use conjunctive_compose::{System, Whole, Wish};
-use samples::{BOUND, EITHER, EITHER_TURN, FIRST, FOUR, LAMP, TURN, cut, long, number, system};
+use samples::{
+    BOUND, EITHER, EITHER_TURN, FIRST, FOUR, LAMP, PRIOR, TURN, cut, long, number, system,
+};
 use std::alloc::Global;
 use std::test::Fail;
 
@@ -28,6 +31,12 @@ const EITHER_LAMPS: &str = "2*0 | 0-1:0 |  = [0, 0] [0]
 const PICKS: &str = "2*0 | 0-1:0 | 0/0/2 = Moved, [1, 0] [2]
 2*0 | 0-1:0 | 0/0/5 = Moved, [1, 0] [1]
 2*0 | 0-1:0 | 0/0/18446744073709551615 1/0/0 = Moved, Blocked { neighbour: 0 }, [1, 0] [3]";
+
+/// Of two philosophers that wait, side a goes. Where one waits it stands behind the other in the peel order; where each
+/// of three waits for the next there is none.
+const PEELS: &str = "3*0 | 0-1:0 1-2:0 2-0:0 | = Some([0, 1, 2])
+3*0 | 0-1:0 1-2:0 2-0:0 | 2/0/0 0/0/0 = Some([1, 2, 0])
+3*0 | 0-1:0 1-2:0 2-0:0 | 0/0/0 1/0/0 2/0/0 = None";
 
 fn wish(spelled: &str) -> Wish {
     let (process, rest) = cut(spelled, "/");
@@ -84,6 +93,35 @@ fn answers_wishes(rt: HostRuntime) -> Result<(), Fail> {
     expect(&rt, rt.alloc(), LAMPS, lamps_told)?;
     expect(&rt, rt.alloc(), EITHER_LAMPS, either_told)?;
     expect(&rt, rt.alloc(), PICKS, picks_told)
+}
+
+/// The whole state that the wishes leave.
+fn left(alloc: Global, system: &System, wishes: &str) -> Result<Whole, Fail>
+    ensures { IfOk result (IsProper system.now) }
+{
+    let mut w = system.start(alloc)?;
+    for word in wishes.split_whitespace() {
+        let wish = wish(word);
+        if !system.fits(wish) {
+            return Err(Fail::from("no such arc"));
+        }
+        system.step(&mut w, wish);
+    }
+    Ok(w)
+}
+
+fn peel_told(alloc: Global, asked: &str) -> Result<String, Fail> {
+    let (groups, rest) = cut(asked, "|");
+    let (joins, wishes) = cut(rest, "|");
+    let system = system(alloc, BOUND, PRIOR, groups, joins)?;
+    let w = left(alloc, &system, wishes)?;
+    let order = system.peel(alloc, &w)?;
+    Ok(format!(in alloc; "{order:?}")?)
+}
+
+#[test]
+fn peels_where_none_waits_in_a_circle(rt: HostRuntime) -> Result<(), Fail> {
+    expect(&rt, rt.alloc(), PEELS, peel_told)
 }
 
 /// Whether the edge's other process permits the arc, where all of them exist.

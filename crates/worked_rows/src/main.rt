@@ -1,7 +1,7 @@
 //! Runs each row of the file `rows`, and prints those that are answered otherwise than they say.
 #![tactic(auto)]
 
-mod judge;
+mod compare;
 mod row;
 mod shown;
 mod tally;

@@ -1,6 +1,6 @@
 //! Takes the lines one by one: names pieces, judges rows, prints what differs, and counts.
 
-use crate::judge::judge;
+use crate::compare::difference_of;
 use crate::row::{Line, line_of};
 use crate::text::{Pieces, written_out};
 use anyhow::{Result, bail};
@@ -56,7 +56,7 @@ impl Tally {
                 Ok(None)
             }
             Line::Call(row) => {
-                let difference = judge(rt, &self.pieces, row)?;
+                let difference = difference_of(rt, &self.pieces, row)?;
                 self.rows = self.rows.saturating_add(1);
                 Ok(difference)
             }

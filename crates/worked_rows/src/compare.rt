@@ -10,7 +10,7 @@ use std::fs;
 use std::rt::Files;
 
 /// What was wanted and what came, where that differs.
-pub fn judge<R: Files + AllocGlobal>(
+pub fn difference_of<R: Files + AllocGlobal>(
     rt: &R,
     pieces: &Pieces,
     row: Row<'_>,
