@@ -1,7 +1,8 @@
 #!/usr/bin/env python3
-"""Writes a specification of one kind over two equal roles, whose local states are passed in a ring. `free`: 32 local states, all arcs but one
-free, one exclusion. `exclusions`: 31 exclusion clauses. `responses`: 16 local states, each answered by the next. `waiting`: 30 local
-states that are served, an exclusion, and two free arcs. `returns`: 6 local states to each of which a way stays."""
+"""make_kind.py KIND [STARTS]: writes a specification of one kind over two equal roles, whose local states are passed in a ring. `free`: 32
+local states, all arcs but one free, one exclusion. `exclusions`: 31 exclusion clauses. `responses`: 16 local states, each answered by the
+next. `waiting`: 30 local states that are served, an exclusion, and two free arcs. `returns`: 6 local states to each of which a way stays.
+The first STARTS local states, one if nothing is said, are the role's starts."""
 import sys
 
 
@@ -26,10 +27,12 @@ KINDS = {
 }
 
 count, free, clauses = KINDS[sys.argv[1]]
+starts = int(sys.argv[2]) if len(sys.argv) > 2 else 1
 print("pairs 1\nrole ring")
 for n in range(count):
     print(f"local L{n}")
-print("start L0")
+for n in range(starts):
+    print(f"start L{n}")
 for n in range(count):
     to = (n + 1) % count
     print(f"arc L{n} L{to}{' free' if to in free else ''}")

@@ -1,4 +1,5 @@
-"""What the tools share: reading and writing the texts of specifications and solutions, and calling the program.
+"""What the tools share: reading and writing the texts of specifications (`spec_texts.py`) and solutions, and calling
+the program.
 
 The readers take the texts that the program takes. They are no judges: `synth` and `prove` say what is wrong with one.
 """
@@ -8,64 +9,10 @@ import sys
 import tempfile
 from dataclasses import dataclass, field, replace
 
+from spec_texts import Kind, Role, Spec, read_spec, read_text, spec_text  # noqa: F401
+
 TOP = os.path.dirname(os.path.dirname(os.path.abspath(__file__)))
 OTHER = {"a": "b", "b": "a"}
-
-
-@dataclass
-class Role:
-    """Local states and starts in their order, and the arcs as (from, to, free)."""
-    name: str
-    locals: list = field(default_factory=list)
-    starts: list = field(default_factory=list)
-    arcs: list = field(default_factory=list)
-
-    def leaving(self, local):
-        """The arcs that leave a local state, in the role's order."""
-        return [arc for arc in self.arcs if arc[0] == local]
-
-
-@dataclass
-class Kind:
-    """The roles of side a and side b by name, and the clauses as texts."""
-    name: str
-    roles: dict
-    clauses: list = field(default_factory=list)
-
-
-@dataclass
-class Spec:
-    """Roles and kinds by name; processes as a role by name; of those that a text lets begin in a start that it names,
-    that start; edges as (process a, process b, kind)."""
-    roles: dict = field(default_factory=dict)
-    kinds: dict = field(default_factory=dict)
-    processes: dict = field(default_factory=dict)
-    begins: dict = field(default_factory=dict)
-    edges: list = field(default_factory=list)
-
-    def role_of(self, kind, side):
-        """The role of a side of a kind."""
-        return self.roles[self.kinds[kind].roles[side]]
-
-    def start_of(self, process):
-        """The local state where a process begins."""
-        return self.begins.get(process) or self.roles[self.processes[process]].starts[0]
-
-    def start_count(self, kind):
-        """The number of start states of a kind; they are its first."""
-        return len(self.role_of(kind, "a").starts) * len(self.role_of(kind, "b").starts)
-
-    def start_state(self, edge):
-        """The pair state of an edge, by its number, in the start."""
-        p, q, kind = self.edges[edge]
-        a, b = (self.role_of(kind, side).starts for side in "ab")
-        return a.index(self.start_of(p)) * len(b) + b.index(self.start_of(q))
-
-    def near(self, process):
-        """The edges of a process, as (number, kind, the process's side, neighbour), in their order."""
-        found = [(e, kind, "a", q) for e, (p, q, kind) in enumerate(self.edges) if p == process]
-        found += [(e, kind, "b", p) for e, (p, q, kind) in enumerate(self.edges) if q == process]
-        return sorted(found)
 
 
 @dataclass
@@ -100,59 +47,6 @@ class Structure:
         found = {(self.local(s, OTHER[side]), ordinals[s], ordinals[t]) for s, moved, t in self.moves
                  if moved == side and (self.local(s, side), self.local(t, side)) == tuple(arc[:2])}
         return sorted(found)
-
-
-def read_text(path):
-    """The text of a file."""
-    with open(path) as file:
-        return file.read()
-
-
-def read_spec(path):
-    """Reads a specification."""
-    spec, role, kind = Spec(), None, None
-    for number, line in enumerate(read_text(path).splitlines(), 1):
-        words = line.split()
-        if not words or words[0].startswith("#"):
-            continue
-        head, rest = words[0], words[1:]
-        if head == "role":
-            role = spec.roles[rest[0]] = Role(rest[0])
-        elif head == "local":
-            role.locals.append(rest[0])
-        elif head == "start":
-            role.starts.append(rest[0])
-        elif head == "arc":
-            role.arcs.append((rest[0], rest[1], len(rest) > 2))
-        elif head == "kind":
-            kind = spec.kinds[rest[0]] = Kind(rest[0], {"a": rest[1], "b": rest[2]})
-        elif head == "require":
-            kind.clauses.append(" ".join(rest))
-        elif head == "process":
-            spec.processes[rest[0]] = rest[1]
-            spec.begins.update({rest[0]: rest[2]} if len(rest) > 2 else {})
-        elif head == "edge":
-            spec.edges.append(tuple(rest))
-        elif head not in ("pairs", "end", "done"):
-            raise SystemExit(f"{path}: line {number} is none of a specification")
-    return spec
-
-
-def spec_text(spec):
-    """The text of a specification."""
-    lines = ["pairs 1"]
-    for role in spec.roles.values():
-        lines += [f"role {role.name}", *(f"local {local}" for local in role.locals)]
-        lines += [f"start {local}" for local in role.starts]
-        lines += [f"arc {p} {q}{' free' if free else ''}" for p, q, free in role.arcs] + ["end"]
-    for kind in spec.kinds.values():
-        lines += [f"kind {kind.name} {kind.roles['a']} {kind.roles['b']}"]
-        lines += [f"require {clause}" for clause in kind.clauses] + ["end"]
-    for name, role in spec.processes.items():
-        start = spec.start_of(name)
-        lines.append(f"process {name} {role}" + (f" {start}" if start != spec.roles[role].starts[0] else ""))
-    lines += ["edge " + " ".join(edge) for edge in spec.edges] + ["done"]
-    return "\n".join(lines) + "\n"
 
 
 def read_solution(path):

@@ -227,9 +227,20 @@ class Certificates(unittest.TestCase):
         self.assertEqual(verdict(spec, read_solution(SOLVED["handshake"][1]), "certificate 1\ndone\n"), "no-peel")
 
 
+class Sets(unittest.TestCase):
+    """A text with sets of local states, whose atoms the program and the tools spell out alike."""
+    LINES = ["pairs 2", "role phil", "local N", "local T", "local C", "start N", "set busy T C", "set rest N",
+             "arc N T free", "arc T C", "arc C N free", "end", "kind mutex phil phil",
+             "require AG !(a.busy & (b.C | !b.rest))", "end", "done", ""]
+
+    def test_spelled_out(self):
+        path = in_room("sets.pairs", "\n".join(self.LINES))
+        self.assertEqual(call("migrate", read_text(path)), (0, spec_text(read_spec(path))))
+
+
 class Starts(unittest.TestCase):
     """Lamps that may start off or on, and one process of them that begins switched on."""
-    LINES = ["pairs 1", "role lamp", "local L", "local R", "start L", "start R", "arc L R", "arc R L", "end",
+    LINES = ["pairs 2", "role lamp", "local L", "local R", "start L", "start R", "arc L R", "arc R L", "end",
              "kind turns lamp lamp", "end", "process p0 lamp", "process p1 lamp R", "process p2 lamp",
              "edge p0 p1 turns", "edge p1 p2 turns", "done", ""]
     TURNS = ["solution 1", "kind turns", "state L L", "state L R", "state R L", "state R R", "move 0 b 1", "move 1 a 3",
