@@ -19,7 +19,7 @@ from pairs import read_text, solution_text, spec_text  # noqa: E402
 EXAMPLES = os.path.join(TOP, "examples")
 ROOM = tempfile.TemporaryDirectory()
 WITHOUT = {"quiet", "right_of_way"}  # examples without a structure
-WAITING = {"drinkers", "grid", "printer", "priority"}  # examples of which what `synth` gives waits somewhere
+WAITING = {"circle", "drinkers", "grid", "printer", "priority", "token"}  # examples of which what `synth` gives waits somewhere
 
 
 def tool(name, *words, status=0):
@@ -76,7 +76,7 @@ class Pictures(unittest.TestCase):
             heads = text.count("style=solid") + text.count("style=dashed") + text.count("dir=both")
             self.assertEqual(heads, sum(len(m.moves) for m in solution.values()))
             self.assertEqual(tool("picture", "--network", spec).count(" -- "), len(read_spec(spec).edges))
-        self.assertIn("mutex, 8 states for 16", tool("picture", "--merge", SOLVED["mutex"][1]))
+        self.assertIn("mutex, 8 states for 8", tool("picture", "--merge", SOLVED["mutex"][1]))
 
     @unittest.skipUnless(shutil.which("dot"), "dot is not installed")
     def test_rendered(self):
