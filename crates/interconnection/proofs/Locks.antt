@@ -1,16 +1,14 @@
 -- The locks of a process.
-use Rattle.std.proofs.Common.{ℕ, zero, suc, false, ◌==◌, ◌≡◌, ◌≢◌, ◌<◌, ◌≤◌, ◌+◌, ◌*◌, ◌^◌, ◌⊎◌, ◌↔◌, ◌∷◌, [], List, length, take, get_or, set, cond, count_by, Contains, arith, inl, inr, refl, sym, ◌∙◌, ap, subst, below_more, get_or-set_same, get_or-set_other, ne_eqb}
-use Rattle.std.proofs.lemmas.List.{length-set}
+use Rattle.std.proofs.Common.{ℕ, zero, suc, ◌==◌, ◌≡◌, ◌≢◌, ◌+◌, ◌∷◌, [], List, length, cond, count_by, Contains, arith, inl, inr, sym, ◌∙◌, ap, ne_eqb}
 use Rattle.std.proofs.Math.Seq.{take-length}
 use Rattle.pair_structure.specs.declared.side.Side.{Side}
 use Rattle.pair_structure.specs.declared.side.Side.TheVariants.{A, B}
 use Rattle.pair_structure.specs.Sides.{opposite}
-use Rattle.interconnection.specs.declared.parts.Beside.{Beside}
 use Rattle.interconnection.specs.declared.parts.Edge.{Edge}
 use Rattle.interconnection.specs.declared.limits.TheConstants.{MAX_NEIGHBOURS}
-use Rattle.interconnection.specs.Around.{Around, IsAround, AreAround, AreEdgesBelow, AreGiven, AreGivenBelow, IsGiven, IsLocked, AreLocked, around_at, nothing}
-use Rattle.interconnection.specs.Graph.{IsBeside, IsEdgeOf, IsLockOf, IsLockPlan, StandsOn, degree_of, edge_at, end_of, joins}
-use Rattle.interconnection.specs.Laws.{HasFewLocks, SharedLocksJoin, lock_count}
+use Rattle.interconnection.specs.Around.{Around, IsAround, AreAround, AreEdgesBelow, AreGiven, IsGiven, IsLocked, AreLocked, around_at}
+use Rattle.interconnection.specs.Graph.{IsBeside, IsLockOf, IsLockPlan, degree_of, edge_at, end_of, joins}
+use Rattle.interconnection.specs.Laws.{HasFewLocks, SharedLocksJoin}
 use Rattle.interconnection.specs.Network.{NetworkParts, IsNetwork}
 use Rattle.interconnection.proofs.Besides.{AreNeighbours-from_around}
 use Rattle.interconnection.proofs.EdgeCount.{few_edges}
@@ -46,16 +44,6 @@ pub AreLocked-from_given : (count : ℕ) (edges : List Edge) (old new : List Aro
 AreLocked-from_given count edges old new around given = record {
   size = given.size ∙ around.size;
   each = λ k lt. IsLocked-from_given edges k (around_at old k) (around_at new k) (around.each k lt) (given.given k (omega (arith, lt, around.size)));
-}
-
--- one more process is given its own lock
-pub AreGivenBelow-more : (n edge_count : ℕ) (old new : List Around) (x : Around) → n < length old → AreGivenBelow n edge_count old new → IsGiven (around_at new n) (edge_count + n) x → AreGivenBelow (n + 1) edge_count old (set new n x)
-AreGivenBelow-more n edge_count old new x lt given is = record {
-  size = length-set new n x ∙ given.size;
-  given = below_more _ n
-      (λ k below. rw (get_or-set_other new n k x nothing (omega (arith, below))) (given.given k below))
-      (rw (get_or-set_same new n x nothing (omega (arith, lt, given.size)), ← given.later n (λ below. omega (arith, below))) is);
-  later = λ k above. get_or-set_other new n k x nothing (λ same. above (omega (arith, same))) ∙ given.later k (λ below. above (omega (arith, below)));
 }
 
 -- of two processes on one edge each is on the other's other side

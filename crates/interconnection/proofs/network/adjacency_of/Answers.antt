@@ -2,7 +2,6 @@ use Rattle.std.proofs.Common.{length, None, Some, arith}
 use Rattle.std.proofs.lemmas.Result.{err_from_is_err_and}
 use Rattle.interconnection.proofs.Besides.{degrees_from_lengths}
 use Rattle.interconnection.proofs.FaultLaws.{AreLawful-from_checks, first_DegreeOver, first_RoleMismatch, first_from_failed}
-use Rattle.interconnection.specs.Laws.{HasFewLocks}
 use Rattle.interconnection.proofs.Locks.{AreLocked-from_given, few_locks}
 use Rattle.interconnection.proofs.network.adjacency_of.Goals as goal
 
