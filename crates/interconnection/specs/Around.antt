@@ -1,6 +1,5 @@
 -- How a network finds neighbours and locks: for each process the list of them, as the edges are read one after another.
 use Rattle.std.specs.Prelude.{ℕ, ◌≡◌, ◌<◌, ◌+◌, ◌==◌, ◌++◌, ◌⊎◌, ◌↔◌, ◌∷◌, List, [], length, AllPairs, Contains, cond, count_by, slice_index_or, take}
-use Rattle.pair_structure.specs.declared.side.Side.{Side}
 use Rattle.pair_structure.specs.Sides.{opposite}
 use Rattle.interconnection.specs.declared.parts.Beside.{Beside}
 use Rattle.interconnection.specs.declared.parts.Edge.{Edge}
