@@ -10,7 +10,6 @@ use Rattle.pair_structure.specs.declared.side.Side.TheVariants.{A, B}
 use Rattle.pair_structure.specs.Sides.{local_of, opposite}
 use Rattle.interconnection.specs.declared.parts.Beside.{Beside}
 use Rattle.pair_structure.specs.Role.{JoinsTwo}
-
 use Rattle.conjunctive_compose.specs.declared.wish.StepAnswer.TheVariants.{Away, Blocked}
 use Rattle.conjunctive_compose.specs.declared.wish.Wish.{Wish}
 use Rattle.conjunctive_compose.specs.Firing.{Permits, WishFits, arc_of}

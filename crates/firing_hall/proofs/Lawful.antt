@@ -1,5 +1,5 @@
 -- The lists of all callers and the gathered journal are a lawful report.
-use Rattle.std.proofs.Common.{ℕ, zero, suc, ◌≡◌, ◌<◌, ◌+◌, Bool, true, false, List, [], ◌∷◌, length, map, get_or, All, arith, refl, sym, ◌∙◌, ap, subst}
+use Rattle.std.proofs.Common.{ℕ, zero, suc, ◌≡◌, ◌<◌, ◌+◌, Bool, true, false, List, [], ◌∷◌, length, map, get_or, arith, refl, sym, ◌∙◌, ap, subst}
 use Rattle.std.specs.Prelude.{cond, ◌==◌}
 use Rattle.std.proofs.lemmas.Bool.{eqb-true}
 use Rattle.std.proofs.lemmas.List.{get_or_default}
@@ -16,7 +16,7 @@ use Rattle.firing_words.specs.Telling.{AreTold}
 use Rattle.firing_words.specs.Views.{IsPartOf}
 use Rattle.firing_words.proofs.Telling.{told_of_track}
 use Rattle.firing_journal.specs.Journal.{AreNumbered, wishes_of}
-use Rattle.firing_journal.specs.Report.{HasList, IsLawful, entries_by, fired_of, list_by, told_of}
+use Rattle.firing_journal.specs.Report.{IsLawful, entries_by, fired_of, list_by, told_of}
 use Rattle.firing_journal.proofs.Numbered.{number_at}
 use Rattle.firing_hall.specs.Reports.{AreListsOf, HasLists, makings_of, log_of}
 use Rattle.firing_journal.specs.declared.asked.Asked.{Asked}

@@ -1,5 +1,5 @@
 -- The locks that a network plans for a process, as the rule over words asks for them.
-use Rattle.std.proofs.Common.{ℕ, zero, suc, ◌≡◌, ◌<◌, inl, inr, List, [], ◌∷◌, length, arith, sym, ◌∙◌, ap, subst, Contains}
+use Rattle.std.proofs.Common.{ℕ, suc, ◌≡◌, ◌<◌, inl, inr, List, [], ◌∷◌, length, arith, ◌∙◌, ap, subst, Contains}
 use Rattle.std.specs.Prelude.{slice_index}
 use Rattle.std.proofs.lemmas.List.{get_or_default}
 use Rattle.interconnection.specs.Graph.{IsLockPlan}

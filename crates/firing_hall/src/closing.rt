@@ -28,7 +28,7 @@ pub enum CloseFault {
 
 impl Hall {
     ghost use Rattle.firing_words.specs.Of.{IsOf, system_of, view};
-    ghost use Rattle.firing_hall.specs.Closing.{AreListsIn, AreTaken, IsBlank, IsCloseFaultOf, kept_in, total};
+    ghost use Rattle.firing_hall.specs.Closing.{AreListsIn, AreTaken, IsBlank, IsCloseFaultOf, ProjectsToPaths, kept_in, total};
     ghost use Rattle.firing_hall.specs.Passes.{IsPassOf};
     ghost use Rattle.firing_journal.specs.Report.{IsLawful, lists_of};
 
@@ -41,6 +41,7 @@ impl Hall {
         requires no_entries { entries.items ≡ [] }
         requires space { total (map (λ v. v.items) lists.items) ≤ vec_capacity entries }
         ensures lawful { IsLawful (system_of self.now.words) result.journal (lists_of result) }
+        ensures paths { ProjectsToPaths (system_of self.now.words) result.journal }
         ensures lists { result.callers.items ≡ lists.items }
     {
         let _system = self.words.system();
@@ -58,6 +59,7 @@ impl Hall {
         requires whole { self.now.words.setting.callers ≤ length passes.items }
         requires blank { IsBlank self.now.words.setting.callers (kept_in passes.items) blank }
         ensures lawful { IsLawful (system_of self.now.words) result.journal (lists_of result) }
+        ensures paths { ProjectsToPaths (system_of self.now.words) result.journal }
         ensures size { length result.callers.items ≡ self.now.words.setting.callers }
         ensures lists { AreListsIn passes.items (lists_of result) }
     {
@@ -72,6 +74,7 @@ impl Hall {
         ensures err { IfErr result (IsCloseFaultOf self passes.items) }
         ensures whole { IfOk result (λ _. self.words.setting.callers ≤ length passes.items) }
         ensures lawful { IfOk result (λ r. IsLawful (system_of self.words) r.journal (lists_of r)) }
+        ensures paths { IfOk result (λ r. ProjectsToPaths (system_of self.words) r.journal) }
         ensures size { IfOk result (λ r. length r.callers.items ≡ self.words.setting.callers) }
         ensures lists { IfOk result (λ r. AreListsIn passes.items (lists_of r)) }
     {

@@ -1,18 +1,24 @@
-use Rattle.std.proofs.Common.{◌∙◌, List, ℕ, refl, subst}
+use Rattle.std.proofs.Common.{◌≡◌, ◌∙◌, ap, refl, subst}
 use Rattle.interconnection.specs.Graph.{IsLockPlan}
 use Rattle.interconnection.specs.Network.{NetworkParts}
-use Rattle.conjunctive_compose.specs.System.{IsSystem}
+use Rattle.conjunctive_compose.specs.System.{IsSystem, SystemParts}
 use Rattle.firing_hall.proofs.Plans.{plan_of}
 use Rattle.firing_words.specs.Of.{view}
-use Rattle.firing_hall.proofs.Losing.{is_answered, lost_then, not_busy, tried_refused}
+use Rattle.firing_hall.proofs.Losing.{is_answered, lost_then, not_busy}
 use Rattle.firing_hall.proofs.Replying.{replied_around, room_same}
 use Rattle.firing_hall.proofs.firing.Hall.fire_by.Goals as goal
 
 pub take_all-requires-clause-plan : goal.take_all-requires-clause-plan
-take_all-requires-clause-plan g c = ?
+take_all-requires-clause-plan g c =
+    let sys = c.args.self.now.words.setting.system in
+    let same : c.network-network.result.now ≡ sys.network = c.network-network.ensures.network ∙ ap (λ (s : SystemParts). s.network) c.system.ensures.system in
+    plan_of sys c.args.wish.process c.lock_plan-plan.result.now (subst IsSystem c.system.ensures.system c.system.ensures.lawful) c.requires.fits.process_in (subst (λ (n : NetworkParts). IsLockPlan n.edges c.args.wish.process c.lock_plan-plan.result.now) same c.lock_plan-plan.ensures)
 
 pub answer-requires-clause-plan : goal.answer-requires-clause-plan
-answer-requires-clause-plan g c = ?
+answer-requires-clause-plan g c =
+    let sys = c.args.self.now.words.setting.system in
+    let same : c.network-network.result.now ≡ sys.network = c.network-network.ensures.network ∙ ap (λ (s : SystemParts). s.network) c.system.ensures.system in
+    plan_of sys c.args.wish.process c.lock_plan-plan.result.now (subst IsSystem c.system.ensures.system c.system.ensures.lawful) c.requires.fits.process_in (subst (λ (n : NetworkParts). IsLockPlan n.edges c.args.wish.process c.lock_plan-plan.result.now) same c.lock_plan-plan.ensures)
 
 pub answer-requires-clause-mine : goal.answer-requires-clause-mine
 answer-requires-clause-mine g c = (c.args.caller, c.take_all.ensures.items.callers ∙ c.requires.mine)

@@ -1,6 +1,9 @@
-use Rattle.std.proofs.Common.{List, length, map, arith, sym, ◌∙◌, subst}
+use Rattle.std.proofs.Common.{List, map, arith, sym, ◌∙◌, subst}
 use Rattle.std.proofs.lemmas.List.{length-map}
 use Rattle.conjunctive_compose.specs.System.{IsSystem}
+use Rattle.conjunctive_compose.proofs.Runs.{projects_to_path}
+use Rattle.firing_journal.specs.Journal.{wishes_of}
+use Rattle.firing_hall.specs.Closing.{ProjectsToPaths}
 use Rattle.firing_journal.specs.Report.{IsLawful}
 use Rattle.firing_journal.specs.declared.journal.Entry.{Entry}
 use Rattle.firing_words.specs.Of.{view}
@@ -60,3 +63,18 @@ returns-clause-lawful c =
     let made = c.gather.ensures.entries log (sym told.part.1) (subst (λ ls. AreListsOf log (map (λ x. x.items) ls)) (sym c.as_slice.ensures.value) are) in
     let lawful = lawful_of sys v log c.gather.new.entries.items lists (subst IsSystem c.system-system.ensures.system c.system-system.ensures.lawful) all.0 all.1 made.0 made.1 in
     subst (λ (entries : List Entry). IsLawful sys entries lists) (sym c.of_entries.ensures) lawful
+
+pub returns-clause-paths : goal.returns-clause-paths
+returns-clause-paths c =
+    let sys = c.args.self.now.words.setting.system in
+    let v = view c.args.main.now in
+    let lists = map (λ x. x.items) c.args.lists.items in
+    let told = c.tell-count.ensures in
+    let log = told.part.0 in
+    let callers = c.args.self.now.words.setting.callers in
+    let all = whole_part sys v log lists callers (length-map c.args.lists.items (λ x. x.items) ∙ c.requires.size) (omega (arith, c.requires.whole, c.requires.size)) c.requires.lists told.part.2 in
+    let are = lists_of sys v log lists all.0 all.1 in
+    let made = c.gather.ensures.entries log (sym told.part.1) (subst (λ ls. AreListsOf log (map (λ x. x.items) ls)) (sym c.as_slice.ensures.value) are) in
+    let system : IsSystem sys = subst IsSystem c.system-system.ensures.system c.system-system.ensures.lawful in
+    let lawful = lawful_of sys v log c.gather.new.entries.items lists system all.0 all.1 made.0 made.1 in
+    subst (ProjectsToPaths sys) (sym c.of_entries.ensures) (λ e moves within is. (projects_to_path sys (wishes_of c.gather.new.entries.items) e system lawful.run within).path moves is)
