@@ -25,7 +25,14 @@ pub(crate) fn stable_blocks(alloc: Global, m: &PairStructure) -> Result<Blocks, 
     let mut settled = unsettled(alloc, states.len())?;
     let mut waiting = all_states(alloc, states.len())?;
     while !waiting.is_empty() {
-        waiting = pass(alloc, m, &predecessors, &mut blocks, &mut settled, &mut waiting)?;
+        waiting = pass(
+            alloc,
+            m,
+            &predecessors,
+            &mut blocks,
+            &mut settled,
+            &mut waiting,
+        )?;
     }
     Ok(blocks)
 }
