@@ -4,6 +4,7 @@ pub mod Filters
 pub mod Looks
 pub mod Near
 pub mod Neighbours
+pub mod NextPairs
 pub mod Pairs
 pub mod Passing
 pub mod PeelOrders

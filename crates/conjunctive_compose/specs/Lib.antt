@@ -1,6 +1,7 @@
 pub mod Firing
 pub mod Laws
 pub mod Looks
+pub mod NextPair
 pub mod Order
 pub mod Peel
 pub mod Projection

@@ -4,6 +4,7 @@
 mod laws;
 mod limits;
 mod making;
+mod next_pair;
 mod peel;
 mod peeling;
 mod step;

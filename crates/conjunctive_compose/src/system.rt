@@ -129,7 +129,8 @@ impl System {
         self.network.processes()[process as usize].start
     }
 
-    pub(crate) fn arc(&self, process: u32, arc: u32) -> LocalArc
+    /// An arc of a process's role, by its number.
+    pub fn arc(&self, process: u32, arc: u32) -> LocalArc
         requires { Fits self.now process arc }
         ensures { result ≡ arc_of self.now process arc }
     {

@@ -1,7 +1,9 @@
 -- What stands around each process, as the edges are read one after another.
-use Rattle.std.proofs.Common.{ℕ, zero, suc, ◌==◌, ◌≡◌, ◌≢◌, ◌<◌, ◌≤◌, ◌+◌, ◌⊎◌, ◌||◌, ◌∷◌, [], Bool, true, false, Option, Some, None, ◌++◌, List, length, take, Contains, below_more, count_by, arith, inl, inr, refl, sym, ◌∙◌, ap, subst, eq-eqb, ne_eqb}
+use Rattle.std.proofs.Common.{ℕ, ◌==◌, ◌≡◌, ◌≢◌, ◌<◌, ◌≤◌, ◌+◌, ◌⊎◌, ◌||◌, ◌∷◌, [], Bool, true, false, Option, Some, None, ◌++◌, List, length, take, get_or, Contains, below_more, count_by, arith, inl, inr, refl, sym, ◌∙◌, ap, subst, eq-eqb, ne_eqb}
 use Rattle.std.proofs.lemmas.Bool.{cases_lt, cases_eq}
 use Rattle.std.proofs.lemmas.List.{get_or_append_left, get_or_push, length_push}
+use Rattle.std.proofs.lemmas.List.Elements.{Contains-append_left, Contains-get_or, Contains-push, Contains-push_cases}
+use Rattle.std.proofs.lemmas.List.Quantifiers.{all_pairs_push}
 use Rattle.std.proofs.lemmas.List.Sums.{count_by_more_yes, count_by_more_no}
 use Rattle.std.proofs.Math.Seq.{take-length}
 use Rattle.pair_structure.specs.inside.FirstFailing.{IsFirstFailing}
@@ -11,8 +13,8 @@ use Rattle.interconnection.specs.declared.limits.TheConstants.{MAX_NEIGHBOURS}
 use Rattle.pair_structure.specs.Sides.{opposite}
 use Rattle.interconnection.specs.declared.parts.Beside.{Beside}
 use Rattle.interconnection.specs.declared.parts.Edge.{Edge}
-use Rattle.interconnection.specs.Around.{Around, IsGrown, IsBesideBelow, IsNeighbourBelow, IsAround, alone, around_at, AreAlone, AreAroundBelow, AreAround}
-use Rattle.interconnection.specs.Graph.{edge_at, end_of, joins, degree_of, AreNeighbours, IsLockPlan}
+use Rattle.interconnection.specs.Around.{Around, HasBeside, IsGrown, IsBesideBelow, IsEdgeBelow, AreEdgesBelow, IsAround, around_at, nothing, AreEmpty, AreAroundBelow, AreAround}
+use Rattle.interconnection.specs.Graph.{edge_at, end_of, joins, degree_of, AreNeighbours}
 use Rattle.interconnection.specs.NetworkFault.{HasEarlier}
 
 abbrev no_edge : Edge
@@ -59,10 +61,35 @@ last_is n edges k side b differ is last =
     let process_is : b.process ≡ end_of (edge_at edges n) (opposite side) = sym other ∙ ap (λ s. end_of (edge_at edges n) (opposite s)) side_is in
     λ i. record { process = process_is i; edge = last i; side = side_is i }
 
+-- the number of one more edge, which is k's
+AreEdgesBelow-push : (n : ℕ) (edges : List Edge) (k : ℕ) (side : Side) (plan : List ℕ) → n < length edges → end_of (edge_at edges n) side ≡ k → AreEdgesBelow n edges k plan → AreEdgesBelow (n + 1) edges k (plan ++ n ∷ [])
+AreEdgesBelow-push n edges k side plan lt own are = record {
+  rising = all_pairs_push (λ x y. x < y) plan n are.rising (λ i d within. ((are.exactly (get_or plan i d)).0 (Contains-get_or plan i d within)).0);
+  exactly = λ e. (to e, from e);
+  count = omega (arith, length_push plan n, are.count, count_by_more_yes (joins k) edges n no_edge lt (joins_by (edge_at edges n) k side own));
+}
+  where
+    to : (e : ℕ) → Contains (plan ++ n ∷ []) e → IsEdgeBelow (n + 1) edges k e
+    to e has = elim (Contains-push_cases plan n e has) [
+      | inl before ↦ (let is = (are.exactly e).0 before in (omega (arith, is.0), is.1))
+      | inr same ↦ (omega (arith, same), (side, subst (λ e. end_of (edge_at edges e) side ≡ k) same own))
+    ]
+
+    from : (e : ℕ) → IsEdgeBelow (n + 1) edges k e → Contains (plan ++ n ∷ []) e
+    from e is = elim (cases_lt e n) [
+      | inl below ↦ Contains-append_left plan (n ∷ []) e ((are.exactly e).1 (below, is.1))
+      | inr ge ↦ (let same : n ≡ e = omega (arith, is.0) in subst (Contains (plan ++ n ∷ [])) same (Contains-push plan n))
+    ]
+
 -- one more edge, which joins k from this side
 IsAround-joined : (n : ℕ) (edges : List Edge) (k : ℕ) (side : Side) (old new : Around) → n < length edges → end_of (edge_at edges n) side ≡ k → end_of (edge_at edges n) (opposite side) ≢ k
     → IsAround n edges k old → IsGrown old (beside_by (edge_at edges n) n side) new → IsAround (n + 1) edges k new
-IsAround-joined n edges k side old new lt own differ around grown = record { ordered = grown.ordered; beside = λ b. (to b, from b); plan = λ j. (to_plan j, from_plan j); count = count }
+IsAround-joined n edges k side old new lt own differ around grown = record {
+  ordered = grown.ordered;
+  beside = λ b. (to b, from b);
+  count = omega (arith, grown.count, around.count, count_by_more_yes (joins k) edges n no_edge lt (joins_by (edge_at edges n) k side own));
+  plan = subst (AreEdgesBelow (n + 1) edges k) (sym grown.plan) (AreEdgesBelow-push n edges k side old.plan lt own around.plan);
+}
   where
     to : (b : Beside) → Contains new.beside b → IsBesideBelow (n + 1) edges k b
     to b has = elim ((grown.beside b).0 has) [
@@ -76,26 +103,22 @@ IsAround-joined n edges k side old new lt own differ around grown = record { ord
       | inr last ↦ inl (last_is n edges k side b differ is last)
     ])
 
-    to_plan : (j : ℕ) → Contains new.plan j → (j ≡ k) ⊎ IsNeighbourBelow (n + 1) edges k j
-    to_plan j has = elim ((grown.plan j).0 has) [
-      | inl same ↦ inr (n, side, record { within = omega arith; own = own; other = sym same })
-      | inr before ↦ elim ((around.plan j).0 before) [
-        | inl itself ↦ inl itself
-        | inr (e, s, below) ↦ inr (e, s, IsBesideBelow-more n edges k (record { process = j; edge = e; side = s }) below)
-      ]
-    ]
-
-    from_plan : (j : ℕ) → (j ≡ k) ⊎ IsNeighbourBelow (n + 1) edges k j → Contains new.plan j
-    from_plan j (inl itself) = (grown.plan j).1 (inr ((around.plan j).1 (inl itself)))
-    from_plan j (inr (e, s, is)) = grown.ordered.planned (record { process = j; edge = e; side = s }) (from (record { process = j; edge = e; side = s }) is)
-
-    count : length new.beside ≡ count_by (joins k) (take (n + 1) edges)
-    count = omega (arith, grown.count, around.count, count_by_more_yes (joins k) edges n no_edge lt (joins_by (edge_at edges n) k side own))
-
 -- one more edge, which does not join k
 IsAround-apart : (n : ℕ) (edges : List Edge) (k : ℕ) (around : Around) → n < length edges → (edge_at edges n).a ≢ k → (edge_at edges n).b ≢ k → IsAround n edges k around → IsAround (n + 1) edges k around
-IsAround-apart n edges k around lt a b is = record { ordered = is.ordered; beside = λ x. (λ has. IsBesideBelow-more n edges k x ((is.beside x).0 has), λ more. (is.beside x).1 (before x more)); plan = λ j. (to_plan j, from_plan j); count = is.count ∙ sym (count_by_more_no (joins k) edges n no_edge lt (joins_not (edge_at edges n) k a b)) }
+IsAround-apart n edges k around lt a b is = record {
+  ordered = is.ordered;
+  beside = λ x. (λ has. IsBesideBelow-more n edges k x ((is.beside x).0 has), λ more. (is.beside x).1 (before x more));
+  count = is.count ∙ same_count;
+  plan = record {
+    rising = is.plan.rising;
+    exactly = λ e. (λ has. (let by = (is.plan.exactly e).0 has in (omega (arith, by.0), by.1)), from e);
+    count = is.plan.count ∙ same_count;
+  };
+}
   where
+    same_count : count_by (joins k) (take n edges) ≡ count_by (joins k) (take (n + 1) edges)
+    same_count = sym (count_by_more_no (joins k) edges n no_edge lt (joins_not (edge_at edges n) k a b))
+
     not_on : (side : Side) → end_of (edge_at edges n) side ≡ k → ⊥
     not_on A own = a own
     not_on B own = b own
@@ -106,15 +129,11 @@ IsAround-apart n edges k around lt a b is = record { ordered = is.ordered; besid
       | inr last ↦ absurd (not_on x.side (subst (λ e. end_of (edge_at edges e) x.side ≡ k) last more.own))
     ]
 
-    to_plan : (j : ℕ) → Contains around.plan j → (j ≡ k) ⊎ IsNeighbourBelow (n + 1) edges k j
-    to_plan j has = elim ((is.plan j).0 has) [
-      | inl itself ↦ inl itself
-      | inr (e, s, below) ↦ inr (e, s, IsBesideBelow-more n edges k (record { process = j; edge = e; side = s }) below)
+    from : (e : ℕ) → IsEdgeBelow (n + 1) edges k e → Contains around.plan e
+    from e (less, (side, own)) = elim (cases_lt e n) [
+      | inl below ↦ (is.plan.exactly e).1 (below, (side, own))
+      | inr ge ↦ (let same : e ≡ n = omega (arith, less) in absurd (not_on side (subst (λ e. end_of (edge_at edges e) side ≡ k) same own)))
     ]
-
-    from_plan : (j : ℕ) → (j ≡ k) ⊎ IsNeighbourBelow (n + 1) edges k j → Contains around.plan j
-    from_plan j (inl itself) = (is.plan j).1 (inl itself)
-    from_plan j (inr (e, s, more)) = (is.plan j).1 (inr (e, s, before (record { process = j; edge = e; side = s }) more))
 
 -- one more edge, which gives each of its processes the other
 pub AreAroundBelow-more : (n count : ℕ) (edges : List Edge) (old new : List Around) → n < length edges → (edge_at edges n).a ≢ (edge_at edges n).b → AreAroundBelow n count edges old
@@ -136,93 +155,70 @@ AreAroundBelow-more n count edges old new lt differ around size a b others = rec
       ]
     ]
 
--- before the first edge each process is alone
+-- before the first edge nothing stands around a process
 
-only_one : (edges : List Edge) (k j : ℕ) → Contains (k ∷ []) j → (j ≡ k) ⊎ IsNeighbourBelow 0 edges k j
-only_one edges k j (zero, lt, is) = inl (sym is)
-only_one edges k j (suc i, lt, is) = absurd (omega (arith, lt))
-
-IsAround-alone : (edges : List Edge) (k : ℕ) → IsAround 0 edges k (alone k)
-IsAround-alone edges k = record {
-  ordered = record {
-    besides_rise = λ i j d before lt. absurd (omega (arith, lt));
-    plan_rises = λ i j d before lt. absurd (omega (arith, lt, before));
-    planned = λ b has. absurd (omega (arith, has.1));
-  };
+IsAround-nothing : (edges : List Edge) (k : ℕ) → IsAround 0 edges k nothing
+IsAround-nothing edges k = record {
+  ordered = λ i j d before lt. absurd (omega (arith, lt));
   beside = λ b. (λ has. absurd (omega (arith, has.1)), λ is. absurd (omega (arith, is.within)));
-  plan = λ j. (only_one edges k j, λ is. elim is [ inl same ↦ (0, omega arith, sym same) | inr (e, s, below) ↦ absurd (omega (arith, below.within)) ]);
   count = refl;
+  plan = record {
+    rising = λ i j d before lt. absurd (omega (arith, lt));
+    exactly = λ e. (λ has. absurd (omega (arith, has.1)), λ is. absurd (omega (arith, is.0)));
+    count = refl;
+  };
 }
 
-pub AreAroundBelow-none : (count : ℕ) (edges : List Edge) (arounds : List Around) → AreAlone count arounds → AreAroundBelow 0 count edges arounds
-AreAroundBelow-none count edges arounds are = record { size = are.size; each = λ k within. subst (IsAround 0 edges k) (sym (are.each k within)) (IsAround-alone edges k) }
+pub AreAroundBelow-none : (count : ℕ) (edges : List Edge) (arounds : List Around) → AreEmpty count arounds → AreAroundBelow 0 count edges arounds
+AreAroundBelow-none count edges arounds are = record { size = are.size; each = λ k within. subst (IsAround 0 edges k) (sym (are.each k within)) (IsAround-nothing edges k) }
 
--- one more process, alone
-pub AreAlone-more : (n : ℕ) (arounds : List Around) (new : Around) → AreAlone n arounds → new ≡ alone n → AreAlone (n + 1) (arounds ++ new ∷ [])
-AreAlone-more n arounds new are is = record {
+-- one more process, without edges
+pub AreEmpty-more : (n : ℕ) (arounds : List Around) (new : Around) → AreEmpty n arounds → new ≡ nothing → AreEmpty (n + 1) (arounds ++ new ∷ [])
+AreEmpty-more n arounds new are is = record {
   size = omega (arith, length_push arounds new, are.size);
   each = below_more _ n
       (λ k lt. get_or_append_left arounds (new ∷ []) _ k (omega (arith, are.size)) ∙ are.each k lt)
       (get_or_push arounds new _ n are.size ∙ is);
 }
 
-earlier_from : (n : ℕ) (edges : List Edge) → IsNeighbourBelow n edges (edge_at edges n).a (edge_at edges n).b → HasEarlier edges n
-earlier_from n edges (e, A, is) = (e, is.within, inl (is.own, is.other))
-earlier_from n edges (e, B, is) = (e, is.within, inr (is.other, is.own))
+-- an edge whose processes on this side and on the other are these
+sides_either : (edge : Edge) (j k : ℕ) (side : Side) → end_of edge side ≡ k → end_of edge (opposite side) ≡ j → ((edge.a ≡ k) × (edge.b ≡ j)) ⊎ ((edge.a ≡ j) × (edge.b ≡ k))
+sides_either edge j k A own other = inl (own, other)
+sides_either edge j k B own other = inr (other, own)
 
--- the edge's second process is planned by its first exactly where an earlier edge joins the two
-pub HasEarlier-from_plan : (n count : ℕ) (edges : List Edge) (arounds : List Around) → AreAroundBelow n count edges arounds → (edge_at edges n).a < count → (edge_at edges n).a ≢ (edge_at edges n).b
-    → Contains (around_at arounds (edge_at edges n).a).plan (edge_at edges n).b → HasEarlier edges n
-HasEarlier-from_plan n count edges arounds around within differ planned =
-    elim (((around.each (edge_at edges n).a within).plan (edge_at edges n).b).0 planned) [
-      | inl same ↦ absurd (differ (sym same))
-      | inr neighbour ↦ earlier_from n edges neighbour
-    ]
+-- the edge's second process is beside its first exactly where an earlier edge joins the two
+pub HasEarlier-from_beside : (n count : ℕ) (edges : List Edge) (arounds : List Around) → AreAroundBelow n count edges arounds → (edge_at edges n).a < count
+    → HasBeside (around_at arounds (edge_at edges n).a).beside (edge_at edges n).b → HasEarlier edges n
+HasEarlier-from_beside n count edges arounds around within (b, has, is) =
+    let by = ((around.each (edge_at edges n).a within).beside b).0 has in
+    (b.edge, by.within, sides_either (edge_at edges b.edge) (edge_at edges n).b (edge_at edges n).a b.side by.own (by.other ∙ is))
 
-pub planned_from_HasEarlier : (n count : ℕ) (edges : List Edge) (arounds : List Around) → AreAroundBelow n count edges arounds → (edge_at edges n).a < count → HasEarlier edges n
-    → Contains (around_at arounds (edge_at edges n).a).plan (edge_at edges n).b
-planned_from_HasEarlier n count edges arounds around within (e, lt, same) =
-    ((around.each (edge_at edges n).a within).plan (edge_at edges n).b).1 (inr (elim same [
-      | inl (a, b) ↦ (e, A, record { within = lt; own = a; other = b })
-      | inr (a, b) ↦ (e, B, record { within = lt; own = b; other = a })
-    ]))
+pub beside_from_HasEarlier : (n count : ℕ) (edges : List Edge) (arounds : List Around) → AreAroundBelow n count edges arounds → (edge_at edges n).a < count → HasEarlier edges n
+    → HasBeside (around_at arounds (edge_at edges n).a).beside (edge_at edges n).b
+beside_from_HasEarlier n count edges arounds around within (e, lt, inl (a, b)) =
+    let x : Beside = record { process = (edge_at edges n).b; edge = e; side = A } in
+    (x, ((around.each (edge_at edges n).a within).beside x).1 (record { within = lt; own = a; other = b }), refl)
+beside_from_HasEarlier n count edges arounds around within (e, lt, inr (a, b)) =
+    let x : Beside = record { process = (edge_at edges n).b; edge = e; side = B } in
+    (x, ((around.each (edge_at edges n).a within).beside x).1 (record { within = lt; own = b; other = a }), refl)
 
-earlier_from_other : (n : ℕ) (edges : List Edge) → IsNeighbourBelow n edges (edge_at edges n).b (edge_at edges n).a → HasEarlier edges n
-earlier_from_other n edges (e, A, is) = (e, is.within, inr (is.own, is.other))
-earlier_from_other n edges (e, B, is) = (e, is.within, inl (is.other, is.own))
+-- where no earlier edge joins the two, the first is not beside the second
+pub not_beside : (n count : ℕ) (edges : List Edge) (arounds : List Around) → AreAroundBelow n count edges arounds → (edge_at edges n).b < count → (HasEarlier edges n → ⊥)
+    → HasBeside (around_at arounds (edge_at edges n).b).beside (edge_at edges n).a → ⊥
+not_beside n count edges arounds around within none (b, has, is) =
+    let by = ((around.each (edge_at edges n).b within).beside b).0 has in
+    none (b.edge, by.within, elim (sides_either (edge_at edges b.edge) (edge_at edges n).a (edge_at edges n).b b.side by.own (by.other ∙ is)) [ inl same ↦ inr same | inr same ↦ inl same ])
 
--- where no earlier edge joins the two, the first is not planned by the second
-pub not_planned : (n count : ℕ) (edges : List Edge) (arounds : List Around) → AreAroundBelow n count edges arounds → (edge_at edges n).b < count → (edge_at edges n).a ≢ (edge_at edges n).b → (HasEarlier edges n → ⊥)
-    → Contains (around_at arounds (edge_at edges n).b).plan (edge_at edges n).a → ⊥
-not_planned n count edges arounds around within differ none planned =
-    elim (((around.each (edge_at edges n).b within).plan (edge_at edges n).a).0 planned) [
-      | inl same ↦ differ same
-      | inr neighbour ↦ none (earlier_from_other n edges neighbour)
-    ]
+-- what stands around a process by all the edges are its neighbours, as many as its degree
 
--- what stands around a process by all the edges are its neighbours, its plan, and as many as its degree
-
-pub AreNeighbours-from_around : (count : ℕ) (edges : List Edge) (arounds : List Around) (k : ℕ) → AreAround count edges arounds → k < count → AreNeighbours edges k (around_at arounds k).beside
-AreNeighbours-from_around count edges arounds k around within =
-    let is = around.each k within in
-    record {
-      rising = is.ordered.besides_rise;
-      exactly = λ b. (
-        λ has. (let by = (is.beside b).0 has in record { within = by.within; own = by.own; other = by.other }),
-        λ by. (is.beside b).1 (record { within = by.within; own = by.own; other = by.other }),
-      );
-    }
-
-pub IsLockPlan-from_around : (count : ℕ) (edges : List Edge) (arounds : List Around) (k : ℕ) → AreAround count edges arounds → k < count → IsLockPlan edges k (around_at arounds k).plan
-IsLockPlan-from_around count edges arounds k around within =
-    let is = around.each k within in
-    record {
-      rising = is.ordered.plan_rises;
-      exactly = λ j. (
-        λ has. elim ((is.plan j).0 has) [ inl itself ↦ inl itself | inr (e, s, by) ↦ inr (e, s, record { within = by.within; own = by.own; other = by.other }) ],
-        λ has. (is.plan j).1 (elim has [ inl itself ↦ inl itself | inr (e, s, by) ↦ inr (e, s, record { within = by.within; own = by.own; other = by.other }) ]),
-      );
-    }
+pub AreNeighbours-from_around : (edges : List Edge) (k : ℕ) (around : Around) → IsAround (length edges) edges k around → AreNeighbours edges k around.beside
+AreNeighbours-from_around edges k around is = record {
+  rising = is.ordered;
+  exactly = λ b. (
+    λ has. (let by = (is.beside b).0 has in record { within = by.within; own = by.own; other = by.other }),
+    λ by. (is.beside b).1 (record { within = by.within; own = by.own; other = by.other }),
+  );
+}
 
 pub degree_from_around : (count : ℕ) (edges : List Edge) (arounds : List Around) (k : ℕ) → AreAround count edges arounds → k < count → length (around_at arounds k).beside ≡ degree_of edges k
 degree_from_around count edges arounds k around within = (around.each k within).count ∙ ap (count_by (joins k)) (take-length edges)

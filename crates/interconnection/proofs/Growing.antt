@@ -1,34 +1,34 @@
--- One more neighbour, put into both lists of a process at its place.
-use Rattle.std.proofs.Common.{ℕ, ◌≡◌, ◌<◌, ◌≤◌, List, length, get_or, insert, Contains, arith, inl, inr, ap, subst}
+-- The neighbours of a process, which rise: finding one, and putting one more at its place.
+use Rattle.std.proofs.Common.{ℕ, ◌==◌, ◌≡◌, ◌<◌, ◌≤◌, ◌↔◌, IsTrue, ◌++◌, ◌∷◌, [], List, length, get_or, insert, arith, inl, inr, sym, ◌∙◌, ap, eqb-true, eq-eqb}
 use Rattle.std.specs.List.Sorted.{IsPartitionPoint}
 use Rattle.std.proofs.lemmas.Bool.{cases_lt}
 use Rattle.std.proofs.lemmas.List.Edits.{length-insert}
 use Rattle.std.proofs.lemmas.List.Elements.{Contains-get_or}
 use Rattle.interconnection.specs.declared.parts.Beside.{Beside}
-use Rattle.interconnection.specs.Around.{IsOrdered, IsGrown}
-use Rattle.interconnection.proofs.RisingLists.{RisesBy-insert, Contains-insert}
+use Rattle.interconnection.specs.Around.{HasBeside, IsGrown, IsOrdered}
+use Rattle.interconnection.proofs.RisingLists.{RisesBy-insert, Contains-insert, stands_at_its_place}
 
 strictly : (x y : ℕ) → x ≤ y → (y ≡ x → ⊥) → x < y
 strictly x y le differ = elim (cases_lt x y) [ inl lt ↦ lt | inr ge ↦ absurd (differ (omega arith)) ]
 
-pub IsGrown-from_inserts : (beside : List Beside) (plan : List ℕ) (b : Beside) (i j : ℕ) → IsOrdered (record { beside = beside; plan = plan }) → (Contains plan b.process → ⊥)
-    → i ≤ length plan → IsPartitionPoint (λ x. x < b.process) (λ x. b.process ≤ x) plan i
+pub IsGrown-from_insert : (beside : List Beside) (plan : List ℕ) (b : Beside) (j : ℕ) → IsOrdered beside → (HasBeside beside b.process → ⊥)
     → j ≤ length beside → IsPartitionPoint (λ (x : Beside). x.process < b.process) (λ (x : Beside). b.process ≤ x.process) beside j
-    → IsGrown (record { beside = beside; plan = plan }) b (record { beside = insert beside j b; plan = insert plan i b.process })
-IsGrown-from_inserts beside plan b i j ordered fresh i_within plan_point j_within beside_point = record {
-  ordered = record {
-    besides_rise = RisesBy-insert (λ (x : Beside). x.process) beside j b ordered.besides_rise j_within
-        (λ k d lt. beside_point.0 k d (omega arith) lt)
-        (λ k d from lt. strictly b.process (get_or beside k d).process (beside_point.1 k d from lt) (λ same. fresh (subst (Contains plan) same (ordered.planned (get_or beside k d) (Contains-get_or beside k d lt)))));
-    plan_rises = RisesBy-insert (λ (x : ℕ). x) plan i b.process ordered.plan_rises i_within
-        (λ k d lt. plan_point.0 k d (omega arith) lt)
-        (λ k d from lt. strictly b.process (get_or plan k d) (plan_point.1 k d from lt) (λ same. fresh (subst (Contains plan) same (Contains-get_or plan k d lt))));
-    planned = λ x has. (Contains-insert plan i b.process x.process).1 (elim ((Contains-insert beside j b x).0 has) [
-      | inl same ↦ inl (ap (λ (x : Beside). x.process) same)
-      | inr before ↦ inr (ordered.planned x before)
-    ]);
-  };
+    → IsGrown (record { beside = beside; plan = plan }) b (record { beside = insert beside j b; plan = plan ++ b.edge ∷ [] })
+IsGrown-from_insert beside plan b j ordered fresh within point = record {
+  ordered = RisesBy-insert (λ (x : Beside). x.process) beside j b ordered within
+      (λ k d lt. point.0 k d (omega arith) lt)
+      (λ k d from lt. strictly b.process (get_or beside k d).process (point.1 k d from lt) (λ same. fresh (get_or beside k d, Contains-get_or beside k d lt, same)));
   beside = λ x. Contains-insert beside j b x;
-  plan = λ x. Contains-insert plan i b.process x;
-  count = length-insert beside j b j_within;
+  plan = λ i. plan ++ b.edge ∷ [];
+  count = length-insert beside j b within;
 }
+
+-- a process is a neighbour exactly where the one that stands at its place is it
+pub found_at_place : (beside : List Beside) (i process : ℕ) (found : Beside) → IsOrdered beside → IsPartitionPoint (λ (x : Beside). x.process < process) (λ (x : Beside). process ≤ x.process) beside i
+    → i < length beside → ((d : Beside) → found ≡ get_or beside i d) → IsTrue (found.process == process) ↔ HasBeside beside process
+found_at_place beside i process found ordered point lt is = (λ same. (found, (i, lt, sym (is found)), eqb-true found.process process same), to)
+  where
+    to : HasBeside beside process → IsTrue (found.process == process)
+    to (b, has, same) =
+        let at = stands_at_its_place (λ (x : Beside). x.process) beside i process b ordered point has same in
+        eq-eqb found.process process (ap (λ (x : Beside). x.process) (is b ∙ at.1) ∙ same)

@@ -6,6 +6,7 @@ pub mod EdgeTables
 pub mod FaultLaws
 pub mod Growing
 pub mod LabelLists
+pub mod Locks
 pub mod OneFurther
 pub mod ProcessNumberLaws
 pub mod RisingLists

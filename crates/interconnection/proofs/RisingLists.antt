@@ -83,14 +83,14 @@ Contains-insert xs i y x =
       λ is. Contains-permutation (y ∷ xs) (insert xs i y) x moved (later_too y x xs is),
     )
 
--- in numbers that rise, a number that is there stands at its place
-pub stands_at_its_place : (xs : List ℕ) (i x : ℕ) → AllPairs (λ x y. x < y) xs → IsPartitionPoint (λ y. y < x) (λ y. x ≤ y) xs i → Contains xs x → (i < length xs) × (get_or xs i x ≡ x)
-stands_at_its_place xs i x rising point (k, lt, is) =
+-- in a list that rises, an element of a number stands at the number's place
+pub stands_at_its_place : {X : Type 0} (n : X → ℕ) (xs : List X) (i v : ℕ) (x : X) → RisesBy n xs → IsPartitionPoint (λ y. n y < v) (λ y. v ≤ n y) xs i → Contains xs x → n x ≡ v → (i < length xs) × (get_or xs i x ≡ x)
+stands_at_its_place n xs i v x rising point (k, lt, is) same =
     elim (cases_order i k) [
-      | inl same ↦ (omega arith, ap (λ k. get_or xs k x) same ∙ is)
+      | inl here ↦ (omega arith, ap (λ k. get_or xs k x) here ∙ is)
       | inr apart ↦ elim apart [
-        | inl below ↦ absurd (omega (arith, is, rising i k x below lt, point.1 i x (omega arith) (omega arith)))
-        | inr above ↦ absurd (omega (arith, is, point.0 k x (omega arith) above))
+        | inl below ↦ absurd (omega (arith, same, ap n is, rising i k x below lt, point.1 i x (omega arith) (omega arith)))
+        | inr above ↦ absurd (omega (arith, same, ap n is, point.0 k x (omega arith) above))
       ]
     ]
 

@@ -1,5 +1,5 @@
 -- The graph: edges between processes, who is beside whom, and what a process locks.
-use Rattle.std.specs.Prelude.{ℕ, ◌≡◌, ◌<◌, ◌==◌, ◌||◌, ◌⊎◌, ◌↔◌, Bool, List, length, AllPairs, Any, Contains, count_by, slice_index_or}
+use Rattle.std.specs.Prelude.{ℕ, ◌≡◌, ◌<◌, ◌+◌, ◌==◌, ◌||◌, ◌⊎◌, ◌↔◌, Bool, List, length, AllPairs, Any, Contains, count_by, slice_index_or}
 use Rattle.pair_structure.specs.declared.side.Side.{Side}
 use Rattle.pair_structure.specs.declared.side.Side.TheVariants.{A, B}
 pub use Rattle.pair_structure.specs.Sides.{opposite}
@@ -26,15 +26,6 @@ pub record AreNeighbours (edges : List Edge) (k : ℕ) (list : List Beside) : Ty
   pub rising : AllPairs (λ (x y : Beside). x.process < y.process) list
   pub exactly : (b : Beside) → Contains list b ↔ IsBeside edges k b
 
--- some edge joins k with j
-abbrev pub IsNeighbour : List Edge → ℕ → ℕ → Type 0
-IsNeighbour edges k j = (e : ℕ) × (side : Side) × IsBeside edges k (record { process = j; edge = e; side = side })
-
--- k and its neighbours, by rising number: the processes whose locks a firing of k takes, in this order
-pub record IsLockPlan (edges : List Edge) (k : ℕ) (plan : List ℕ) : Type 0 where
-  pub rising : AllPairs (λ (x y : ℕ). x < y) plan
-  pub exactly : (j : ℕ) → Contains plan j ↔ (j ≡ k) ⊎ IsNeighbour edges k j
-
 -- one of the two processes that the edge joins is k
 abbrev pub joins : ℕ → Edge → Bool
 joins k edge = (edge.a == k) || (edge.b == k)
@@ -42,6 +33,24 @@ joins k edge = (edge.a == k) || (edge.b == k)
 -- how many edges k has
 abbrev pub degree_of : List Edge → ℕ → ℕ
 degree_of edges k = count_by (joins k) edges
+
+-- process k stands on a side of edge number e
+abbrev pub StandsOn : List Edge → ℕ → ℕ → Type 0
+StandsOn edges k e = (side : Side) × (end_of (edge_at edges e) side ≡ k)
+
+-- number e is that of an edge of k
+abbrev pub IsEdgeOf : List Edge → ℕ → ℕ → Type 0
+IsEdgeOf edges k e = (e < length edges) × StandsOn edges k e
+
+-- a lock of k: each edge has a lock of its number; a process without edges has one of its own, whose number comes behind
+-- those of the edges
+abbrev pub IsLockOf : List Edge → ℕ → ℕ → Type 0
+IsLockOf edges k lock = IsEdgeOf edges k lock ⊎ ((lock ≡ length edges + k) × (degree_of edges k ≡ 0))
+
+-- exactly the locks of k, by rising number: a firing of k takes them in this order
+pub record IsLockPlan (edges : List Edge) (k : ℕ) (plan : List ℕ) : Type 0 where
+  pub rising : AllPairs (λ (x y : ℕ). x < y) plan
+  pub exactly : (lock : ℕ) → Contains plan lock ↔ IsLockOf edges k lock
 
 -- the two edges join the same two processes, in either direction
 abbrev pub JoinSame : Edge → Edge → Type 0

@@ -1,11 +1,11 @@
-ghost use Rattle.std.specs.Prelude.{◌≡◌, ◌↔◌, ◌<◌, ◌≤◌, ◌^◌, ℕ, length, Contains, IfOk, IfErr, IsTrue, OnOk};
+ghost use Rattle.std.specs.Prelude.{◌≡◌, ◌↔◌, ◌<◌, ◌≤◌, ◌+◌, ◌^◌, ℕ, length, IfOk, IfErr, IsTrue, OnOk};
 ghost use Rattle.pair_structure.specs.inside.FirstFailing.{IsFirstFailing};
-ghost use Rattle.interconnection.specs.Around.{AreAlone, AreAround, IsGrown, IsOrdered, around_at};
+ghost use Rattle.interconnection.specs.Around.{AreAround, AreEmpty, AreGiven, HasBeside, IsGrown, IsOrdered, around_at};
 ghost use Rattle.interconnection.specs.Graph.{edge_at};
 ghost use Rattle.interconnection.specs.Network.{JoinsTwo};
 ghost use Rattle.interconnection.specs.inside.NetworkCheck.{AreSingle, IsFailedAdjacency};
 
-use crate::neighbourhood::{Neighbourhood, has_number};
+use crate::neighbourhood::{Neighbourhood, has_beside};
 use crate::{Beside, Edge, MAX_NEIGHBOURS, MAX_PROCESSES, NetworkFault};
 use pair_structure::Side;
 use std::alloc::{AllocError, Global};
@@ -50,11 +50,11 @@ impl Adjacency {
 
     fn without_edges(alloc: Global, count: usize) -> Result<Adjacency, AllocError>
         requires { count ≤ MAX_PROCESSES }
-        ensures { IfOk result (AreAlone count) }
+        ensures { IfOk result (AreEmpty count) }
     {
         let mut each = Vec::with_capacity(alloc, count)?;
-        for k in 0..count {
-            each.push(Neighbourhood::alone(alloc, k as u32)?)?;
+        for _ in 0..count {
+            each.push(Neighbourhood::empty(alloc))?;
         }
         Ok(Adjacency { each })
     }
@@ -80,23 +80,23 @@ impl Adjacency {
         self.each[k].plan()
     }
 
-    /// Whether the edge's second process is beside its first, or is the first.
+    /// Whether the edge's second process is beside its first.
     fn are_joined(&self, edge: &Edge) -> bool
         requires within { edge.now.a < length self.now }
-        requires ordered { IsOrdered (around_at self.now edge.now.a) }
-        ensures { IsTrue result ↔ Contains (around_at self.now edge.now.a).plan edge.now.b }
+        requires ordered { IsOrdered (around_at self.now edge.now.a).beside }
+        ensures { IsTrue result ↔ HasBeside (around_at self.now edge.now.a).beside edge.now.b }
     {
-        has_number(self.plan(edge.a as usize), edge.b)
+        has_beside(self.beside(edge.a as usize), edge.b)
     }
 
     fn join(&mut self, e: u32, edge: &Edge) -> Result<(), AllocError>
         requires a_within { edge.now.a < length self.old }
         requires b_within { edge.now.b < length self.old }
         requires differ { JoinsTwo edge.now }
-        requires a_ordered { IsOrdered (around_at self.old edge.now.a) }
-        requires b_ordered { IsOrdered (around_at self.old edge.now.b) }
-        requires a_fresh { Contains (around_at self.old edge.now.a).plan edge.now.b → ⊥ }
-        requires b_fresh { Contains (around_at self.old edge.now.b).plan edge.now.a → ⊥ }
+        requires a_ordered { IsOrdered (around_at self.old edge.now.a).beside }
+        requires b_ordered { IsOrdered (around_at self.old edge.now.b).beside }
+        requires a_fresh { HasBeside (around_at self.old edge.now.a).beside edge.now.b → ⊥ }
+        requires b_fresh { HasBeside (around_at self.old edge.now.b).beside edge.now.a → ⊥ }
         ensures size { OnOk result (length self.new ≡ length self.old) }
         ensures a { OnOk result (IsGrown (around_at self.old edge.now.a) (record { process = edge.now.b; edge = e; side = Side.A }) (around_at self.new edge.now.a)) }
         ensures b { OnOk result (IsGrown (around_at self.old edge.now.b) (record { process = edge.now.a; edge = e; side = Side.B }) (around_at self.new edge.now.b)) }
@@ -123,13 +123,24 @@ impl Adjacency {
 
     fn add(&mut self, k: usize, neighbour: Beside) -> Result<(), AllocError>
         requires within { k < length self.old }
-        requires ordered { IsOrdered (around_at self.old k) }
-        requires fresh { Contains (around_at self.old k).plan neighbour.process → ⊥ }
+        requires ordered { IsOrdered (around_at self.old k).beside }
+        requires fresh { HasBeside (around_at self.old k).beside neighbour.process → ⊥ }
         ensures size { length self.new ≡ length self.old }
         ensures here { OnOk result (IsGrown (around_at self.old k) neighbour (around_at self.new k)) }
         ensures elsewhere { OnOk result ((j : ℕ) → (k ≡ j → ⊥) → around_at self.new j ≡ around_at self.old j) }
     {
         self.each[k].add(neighbour)?;
+        Ok(())
+    }
+
+    /// Gives each process without an edge its own lock, behind the locks of so many edges. Linear in processes.
+    pub(crate) fn give_own_locks(&mut self, edge_count: usize) -> Result<(), AllocError>
+        requires { edge_count + length self.old < 2 ^ 32 }
+        ensures { OnOk result (AreGiven edge_count self.old self.new) }
+    {
+        for k in 0..self.each.len() {
+            self.each[k].give_own_lock((edge_count + k) as u32)?;
+        }
         Ok(())
     }
 

@@ -20,7 +20,10 @@ mod shapes;
 
 pub use edges::Edges;
 pub use fault::NetworkFault;
-pub use laws::{few_edges, neighbours_are_mutual, next_shapes_are_all, stands_once_in_own_plan};
+pub use laws::{
+    few_edges, few_locks, locks_stand_once, neighbours_are_mutual, next_shapes_are_all,
+    shared_locks_join,
+};
 pub use limits::{MAX_KINDS, MAX_NEIGHBOURS, MAX_PROCESSES, MAX_ROLES};
 pub use network::Network;
 pub use parts::{Beside, Edge, Process};

@@ -1,13 +1,13 @@
-ghost use Rattle.std.specs.Prelude.{◌≡◌, ◌<◌, ◌≤◌, ◌↔◌, ◌∷◌, [], length, AllPairs, Contains, IfOk, IsTrue, OnOk};
+ghost use Rattle.std.specs.Prelude.{◌≡◌, ◌<◌, ◌≤◌, ◌↔◌, [], length, IfOk, IsTrue, OnOk};
 ghost use Rattle.std.specs.List.Sorted.{IsPartitionPoint};
 ghost use Rattle.interconnection.specs.declared.parts.Beside.{Beside};
-ghost use Rattle.interconnection.specs.Around.{IsOrdered, IsGrown};
+ghost use Rattle.interconnection.specs.Around.{HasBeside, IsGiven, IsGrown, IsOrdered};
 
 use crate::Beside;
 use std::alloc::{AllocError, Global};
 use std::marker::Model;
 
-/// What stands around one process: its neighbours by rising number, and the numbers of the process and its neighbours, rising.
+/// What stands around one process: its neighbours by rising number, and its plan, the numbers of its locks, rising.
 #[derive(Debug, Drop)]
 pub(crate) struct Neighbourhood {
     beside: Vec<Beside>,
@@ -23,16 +23,14 @@ impl Model for Neighbourhood {
 }
 
 impl Neighbourhood {
-    /// That of a process without edges.
-    pub(crate) fn alone(alloc: Global, process: u32) -> Result<Neighbourhood, AllocError>
-        ensures { IfOk result (λ n. n ≡ record { beside = []; plan = process ∷ [] }) }
+    /// No neighbour, and no lock.
+    pub(crate) fn empty(alloc: Global) -> Neighbourhood
+        ensures { result ≡ record { beside = []; plan = [] } }
     {
-        let mut plan = Vec::new(alloc);
-        plan.push(process)?;
-        Ok(Neighbourhood {
+        Neighbourhood {
             beside: Vec::new(alloc),
-            plan,
-        })
+            plan: Vec::new(alloc),
+        }
     }
 
     pub(crate) fn copy(&self, alloc: Global) -> Result<Neighbourhood, AllocError>
@@ -56,41 +54,43 @@ impl Neighbourhood {
         &self.plan
     }
 
-    /// Adds a neighbour that is not there yet. Logarithmic to find the place, and linear in the neighbours to make room.
+    /// Adds a neighbour that is not there yet, and its edge behind the plan. Logarithmic to find the place, and linear in
+    /// the neighbours to make room.
     pub(crate) fn add(&mut self, neighbour: Beside) -> Result<(), AllocError>
-        requires ordered { IsOrdered self.old }
-        requires fresh { Contains self.old.plan neighbour.process → ⊥ }
+        requires ordered { IsOrdered self.old.beside }
+        requires fresh { HasBeside self.old.beside neighbour.process → ⊥ }
         ensures { OnOk result (IsGrown self.old neighbour self.new) }
     {
-        let place = place_among(&self.plan, neighbour.process);
-        self.plan.insert(place, neighbour.process)?;
         let place = place_beside(&self.beside, neighbour.process);
         self.beside.insert(place, neighbour)?;
+        self.plan.push(neighbour.edge)?;
+        Ok(())
+    }
+
+    /// Gives this lock to a process that has none.
+    pub(crate) fn give_own_lock(&mut self, lock: u32) -> Result<(), AllocError>
+        ensures { OnOk result (IsGiven self.old lock self.new) }
+    {
+        if self.plan.is_empty() {
+            self.plan.push(lock)?;
+        }
         Ok(())
     }
 }
 
-/// Whether the number is one of these, which rise. Logarithmic.
-pub(crate) fn has_number(numbers: &[u32], number: u32) -> bool
-    requires { AllPairs (λ x y. x < y) numbers.now }
-    ensures { IsTrue result ↔ Contains numbers.now number }
+/// Whether the process is one of these neighbours, which rise. Logarithmic.
+pub(crate) fn has_beside(neighbours: &[Beside], process: u32) -> bool
+    requires { IsOrdered neighbours.now }
+    ensures { IsTrue result ↔ HasBeside neighbours.now process }
 {
-    match numbers.get(place_among(numbers, number)) {
-        Some(found) => *found == number,
+    match neighbours.get(place_beside(neighbours, process)) {
+        Some(found) => found.process == process,
         None => false,
     }
 }
 
-fn place_among(numbers: &[u32], number: u32) -> usize
-    requires { AllPairs (λ x y. x < y) numbers.now }
-    ensures within { result ≤ length numbers.now }
-    ensures point { IsPartitionPoint (λ x. x < number) (λ x. number ≤ x) numbers.now result }
-{
-    numbers.partition_point(|x| *x < number)
-}
-
 fn place_beside(neighbours: &[Beside], process: u32) -> usize
-    requires { AllPairs (λ (x y : Beside). x.process < y.process) neighbours.now }
+    requires { IsOrdered neighbours.now }
     ensures within { result ≤ length neighbours.now }
     ensures point { IsPartitionPoint (λ (b : Beside). b.process < process) (λ (b : Beside). process ≤ b.process) neighbours.now result }
 {

@@ -1,7 +1,7 @@
 ghost use Rattle.std.specs.Prelude.{◌≡◌, ◌≢◌, ◌<◌, ◌^◌, length, All, IfOk, IfErr};
 ghost use Rattle.std.specs.List.Sorted.{IsNonDecreasingBy, IsPermutation};
 ghost use Rattle.pair_structure.specs.Role.{IsRole};
-ghost use Rattle.interconnection.specs.Around.{AreAround};
+ghost use Rattle.interconnection.specs.Around.{AreLocked};
 ghost use Rattle.interconnection.specs.Graph.{AreNeighbours, IsLockPlan, degree_of};
 ghost use Rattle.interconnection.specs.Network.{AreLawful, IsNetwork};
 ghost use Rattle.interconnection.specs.NetworkFault.{IsFirstNetworkFault};
@@ -30,7 +30,7 @@ pub struct Network {
 
 impl Model for Network {
     ghost use Rattle.std.specs.Prelude.{length};
-    ghost use Rattle.interconnection.specs.Around.{AreAround};
+    ghost use Rattle.interconnection.specs.Around.{AreLocked};
     ghost use Rattle.interconnection.specs.inside.Labels.{AreLabels};
     ghost use Rattle.interconnection.specs.Network.{NetworkParts, AreLawful};
 
@@ -38,7 +38,7 @@ impl Model for Network {
 
     ghost view = { λ n. record { roles = n.roles.items; ends = n.ends.items; processes = n.processes.items; edges = n.edges.items } };
 
-    ghost invariant = { λ n. AreLawful n.roles.items n.ends.items n.processes.items n.edges.items × AreAround (length n.processes.items) n.edges.items n.adjacency × AreLabels (length n.processes.items) n.edges.items n.labels };
+    ghost invariant = { λ n. AreLawful n.roles.items n.ends.items n.processes.items n.edges.items × AreLocked (length n.processes.items) n.edges.items n.adjacency × AreLabels (length n.processes.items) n.edges.items n.labels };
 }
 
 impl Network {
@@ -131,7 +131,9 @@ impl Network {
         self.adjacency.beside(k as usize)
     }
 
-    /// The process and its neighbours, by rising number. Takes no time that grows with the network.
+    /// The locks of a process, in the order in which a firing of it takes them: its edges by rising number, and where it
+    /// has none the one lock of its own, whose number is its process number past the count of edges. Takes no time that
+    /// grows with the network.
     pub fn lock_plan(&self, k: u32) -> &[u32]
         requires { k < length self.now.processes }
         ensures { IsLockPlan self.now.edges k result.now }
@@ -158,7 +160,7 @@ fn adjacency_of(
     edges: &[Edge],
 ) -> Result<Adjacency, NetworkFault>
     requires { length edges.now < 2 ^ 32 }
-    ensures around { IfOk result (λ a. AreAround (length processes.now) edges.now a) }
+    ensures locked { IfOk result (λ a. AreLocked (length processes.now) edges.now a) }
     ensures lawful { IfOk result (λ a. AreLawful roles.now ends.now processes.now edges.now) }
     ensures fault { IfErr result (λ fault. fault ≢ NetworkFault.Memory → IsFirstNetworkFault roles.now ends.now processes.now edges.now fault) }
 {
@@ -168,7 +170,7 @@ fn adjacency_of(
     if let Some(fault) = edge_fault(ends, processes, edges) {
         return Err(fault);
     }
-    let adjacency = Adjacency::of(alloc, processes.len(), edges)?;
+    let mut adjacency = Adjacency::of(alloc, processes.len(), edges)?;
     if let Some(edge) = first_mismatch(ends, processes, edges) {
         return Err(NetworkFault::RoleMismatch { edge: edge as u32 });
     }
@@ -177,5 +179,6 @@ fn adjacency_of(
             process: process as u32,
         });
     }
+    adjacency.give_own_locks(edges.len())?;
     Ok(adjacency)
 }

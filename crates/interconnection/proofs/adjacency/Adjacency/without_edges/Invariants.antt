@@ -1,5 +1,5 @@
-use Rattle.interconnection.specs.Around.{AreAlone}
+use Rattle.interconnection.specs.Around.{AreEmpty}
 use Rattle.interconnection.proofs.adjacency.Adjacency.without_edges.Given as goal
 
-abbrev pub invariant-loop-k : goal.invariant-loop-k
-invariant-loop-k l = AreAlone l.k l.each.items
+abbrev pub invariant-loop : goal.invariant-loop
+invariant-loop l = AreEmpty l.counter l.each.items
