@@ -66,9 +66,9 @@ module _ (sys : SystemParts) (wish : Wish) (b : Beside) (s : ℕ) (system : IsSy
       let ra = role_of sys (edge_at sys b.edge).a in
       let rb = role_of sys (edge_at sys b.edge).b in
       let commands = commands_of (lists_at sys b.edge) b.side wish.arc in
-      let same : arcs_of ra rb b.side ≡ (role_of sys wish.process).arcs = arcs_are sys b.edge wish.process b.side beside.own in
+      let same : arcs_of b.side ra rb ≡ (role_of sys wish.process).arcs = arcs_are sys b.edge wish.process b.side beside.own in
       let known = picked_is commands other (ordinal_of states s) wish.pick (some_open commands other (ordinal_of states s) some) in
-      let in' : wish.arc < length (arcs_of ra rb b.side) = rw same fits.arc_in in
+      let in' : wish.arc < length (arcs_of b.side ra rb) = rw same fits.arc_in in
       let listed : IsListed (structure_at sys b.edge) b.side arc commands = subst (λ (arcs : List LocalArc). IsListed (structure_at sys b.edge) b.side (arc_at arcs wish.arc) commands) same (lawful.skeleton.listed b.side wish.arc in') in
       let command : IsCommand (structure_at sys b.edge) b.side arc (picked open_here wish.pick) = (listed.exact (picked open_here wish.pick)).0 known.among in
       let here : IsStateAt states label (picked open_here wish.pick).x s = record { within = left.within; label_is = refl; ordinal_is = sym known.x_is } in

@@ -20,7 +20,7 @@ returns-in_default-clause-none c =
     let m_is : c.structure-structure.result.now ≡ structure_at sys b.edge = c.structure-structure.ensures.structure ∙ ap (λ (es : List Edge). structure_of sys.structures (edge_numbered es b.edge).kind) edges_are in
     let states_are = c.states.ensures.states ∙ ap (λ (m : Structure). m.states) m_is in
     let found : AreFound sys c.args.wish b s c.local_of-other.result c.ordinal-x.result c.skeleton.result.now = record {
-      other_is = c.local_of-other.ensures ∙ ap (λ (l : List (ℕ × ℕ)). local_of (opposite b.side) (label_at l s)) states_are;
+      other_is = c.local_of-other.ensures ∙ (λ i. local_of (c.opposite.ensures i) (label_at (states_are i) s));
       x_is = c.ordinal-x.ensures ∙ ap (λ (m : Structure). ordinal_of m.states s) m_is;
       lists_are = c.skeleton.ensures.lists;
     } in
@@ -36,12 +36,12 @@ unreachable-requires c =
     let m_is : c.structure-structure.result.now ≡ structure_at sys b.edge = c.structure-structure.ensures.structure ∙ ap (λ (es : List Edge). structure_of sys.structures (edge_numbered es b.edge).kind) edges_are in
     let states_are = c.states.ensures.states ∙ ap (λ (m : Structure). m.states) m_is in
     let found : AreFound sys c.args.wish b s c.local_of-other.result c.ordinal-x.result c.skeleton.result.now = record {
-      other_is = c.local_of-other.ensures ∙ ap (λ (l : List (ℕ × ℕ)). local_of (opposite b.side) (label_at l s)) states_are;
+      other_is = c.local_of-other.ensures ∙ (λ i. local_of (c.opposite.ensures i) (label_at (states_are i) s));
       x_is = c.ordinal-x.ensures ∙ ap (λ (m : Structure). ordinal_of m.states s) m_is;
       lists_are = c.skeleton.ensures.lists;
     } in
     let after_is : c.with_local-after.result ≡ with_local b.side (label_at (structure_at sys b.edge).states s) (arc_of sys c.args.wish.process c.args.wish.arc).to =
-        c.with_local-after.ensures ∙ (λ i. with_local b.side (label_at (states_are i) s) (c.arc-to.ensures i).to) in
+    c.with_local-after.ensures ∙ (λ i. with_local b.side (label_at (states_are i) s) (c.arc.ensures i).to) in
     let there = next_exists sys c.args.wish b s c.local_of-other.result c.ordinal-x.result c.in-Some.set c.skeleton.result.now c.skeleton.ensures.system r.fits r.beside r.left found c.in-Some.ensures.some in
     c.in-None.ensures there.0 (subst (λ (q : List (ℕ × ℕ) × (ℕ × ℕ)). IsStateAt q.0 q.1 c.in-Some.set there.0) (λ i. ((sym m_is i).states, sym after_is i)) there.1)
 
@@ -55,11 +55,11 @@ returns-clause-some c =
     let m_is : c.structure-structure.result.now ≡ structure_at sys b.edge = c.structure-structure.ensures.structure ∙ ap (λ (es : List Edge). structure_of sys.structures (edge_numbered es b.edge).kind) edges_are in
     let states_are = c.states.ensures.states ∙ ap (λ (m : Structure). m.states) m_is in
     let found : AreFound sys c.args.wish b s c.local_of-other.result c.ordinal-x.result c.skeleton.result.now = record {
-      other_is = c.local_of-other.ensures ∙ ap (λ (l : List (ℕ × ℕ)). local_of (opposite b.side) (label_at l s)) states_are;
+      other_is = c.local_of-other.ensures ∙ (λ i. local_of (c.opposite.ensures i) (label_at (states_are i) s));
       x_is = c.ordinal-x.ensures ∙ ap (λ (m : Structure). ordinal_of m.states s) m_is;
       lists_are = c.skeleton.ensures.lists;
     } in
     let after_is : c.with_local-after.result ≡ with_local b.side (label_at (structure_at sys b.edge).states s) (arc_of sys c.args.wish.process c.args.wish.arc).to =
-        c.with_local-after.ensures ∙ (λ i. with_local b.side (label_at (states_are i) s) (c.arc-to.ensures i).to) in
+    c.with_local-after.ensures ∙ (λ i. with_local b.side (label_at (states_are i) s) (c.arc.ensures i).to) in
     next_told sys c.args.wish b s c.local_of-other.result c.ordinal-x.result c.in-Some.set c.in-Some-state_at.next c.skeleton.result.now c.skeleton.ensures.system r.fits r.beside r.left found c.in-Some.ensures.some
-        (subst (λ (q : List (ℕ × ℕ) × (ℕ × ℕ)). IsStateAt q.0 q.1 c.in-Some.set c.in-Some-state_at.next) (λ i. ((m_is i).states, after_is i)) c.in-Some-state_at.ensures)
+    (subst (λ (q : List (ℕ × ℕ) × (ℕ × ℕ)). IsStateAt q.0 q.1 c.in-Some.set c.in-Some-state_at.next) (λ i. ((m_is i).states, after_is i)) c.in-Some-state_at.ensures)
