@@ -3,6 +3,7 @@ pub mod Numbered
 pub mod OneText
 pub mod Projections
 pub mod Replays
+pub mod ReportLines
 pub mod Texts
 pub mod Words
 pub mod Written

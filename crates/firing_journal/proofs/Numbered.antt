@@ -1,9 +1,11 @@
 -- Entries under their numbers.
-use Rattle.std.proofs.Common.{ℕ, zero, suc, ◌≡◌, ◌<◌, ◌+◌, ◌^◌, List, [], ◌∷◌, ◌++◌, length, get_or, All, arith, subst, sym, ◌∙◌, ap}
+use Rattle.std.proofs.Common.{ℕ, zero, suc, ◌≡◌, ◌<◌, ◌+◌, ◌^◌, List, [], ◌∷◌, ◌++◌, length, get_or, map, take, All, arith, subst, sym, ◌∙◌, ap}
 use Rattle.std.specs.List.{range_with_len}
-use Rattle.std.proofs.lemmas.List.{get_or-map, length-append, map-append}
+use Rattle.std.proofs.lemmas.Grind.{same_number_lists}
+use Rattle.std.proofs.lemmas.List.{get_or-map, length-append, length-map, map-append}
 use Rattle.std.proofs.lemmas.List.Elements.{All-cons, All-nil, All-push}
-use Rattle.std.proofs.lemmas.List.FromFn.{get_or-range_with_len}
+use Rattle.std.proofs.Math.Seq.{take-suc}
+use Rattle.std.proofs.lemmas.List.FromFn.{get_or-range_with_len, length-range_with_len}
 use Rattle.firing_journal.specs.declared.journal.Entry.{Entry}
 use Rattle.firing_journal.specs.Journal.{AreNumbered, IsJournal, number_of}
 use Rattle.firing_journal.specs.Said.{HasSmallNumbers, IsWordNumber}
@@ -38,3 +40,15 @@ journal_push entries all entry is number all_is small = record {
 
 pub number_at : (entries : List Entry) (i : ℕ) (d : Entry) → AreNumbered entries → i < length entries → (get_or entries i d).number ≡ i
 number_at entries i d numbered lt = sym (get_or-map number_of entries i d 0 lt) ∙ ap (λ (l : List ℕ). get_or l i 0) numbered ∙ get_or-range_with_len 0 (length entries) i 0 lt ∙ omega arith
+
+-- where each entry has its place as its number they are numbered
+pub numbered_each : (entries : List Entry) (d : Entry) → ((i : ℕ) → i < length entries → (get_or entries i d).number ≡ i) → AreNumbered entries
+numbered_each entries d each = same_number_lists (map number_of entries) (range_with_len 0 (length entries)) (omega (arith, length-map entries number_of, length-range_with_len 0 (length entries))) (λ k within.
+    let lt : k < length entries = omega (arith, within, length-map entries number_of) in
+    get_or-map number_of entries k d 0 lt ∙ each k lt ∙ sym (get_or-range_with_len 0 (length entries) k 0 lt ∙ omega arith))
+
+-- one entry more has small numbers
+pub small_more : (entries : List Entry) (i : ℕ) (d : Entry) → i < length entries → All HasSmallNumbers (take i entries) → HasSmallNumbers (get_or entries i d) → All HasSmallNumbers (take (i + 1) entries)
+small_more entries i d lt before here =
+    let next : i + 1 ≡ suc i = omega arith in
+    subst (All HasSmallNumbers) (sym (ap (λ (n : ℕ). take n entries) next ∙ take-suc entries i d lt)) (All-push HasSmallNumbers (take i entries) (get_or entries i d) before here)

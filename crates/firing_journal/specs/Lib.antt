@@ -3,6 +3,8 @@ pub mod Journal
 pub mod JournalText
 pub mod Place
 pub mod Replay
+pub mod Report
+pub mod ReportText
 pub mod Said
 pub mod Text
 pub mod inside

@@ -44,6 +44,15 @@ impl Journal {
         }
     }
 
+    /// The journal of these entries. Takes no memory; linear in the entries.
+    pub fn of_entries(entries: Vec<Entry>) -> Journal
+        requires numbered { AreNumbered entries.items }
+        ensures { result ≡ entries.items }
+    {
+        know_small(entries.as_slice());
+        Journal { entries }
+    }
+
     /// The entries in their order. Each number of them may stand in a text.
     pub fn entries(&self) -> &[Entry]
         ensures entries { result.now ≡ self.now }
@@ -69,6 +78,22 @@ impl Journal {
         ensures { IsTrue result ↔ JournalFits system.now self.now }
     {
         self.entries().iter().all(|entry| entry_fits(system, entry))
+    }
+}
+
+/// Does nothing, and tells the proof that each number of an entry may stand in a text.
+fn know_small(entries: &[Entry])
+    ensures { All HasSmallNumbers entries.now }
+{
+    for entry in entries {
+        let wish = entry.wish;
+        entry_of(
+            entry.number,
+            entry.caller,
+            wish.process,
+            wish.arc,
+            wish.pick,
+        );
     }
 }
 

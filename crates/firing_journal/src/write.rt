@@ -18,7 +18,7 @@ pub fn write_journal(alloc: Global, j: &Journal, into: &mut Vec<u8>) -> Result<(
     Ok(())
 }
 
-fn write_text(entries: &[Entry], into: &mut Vec<u8>) -> Result<(), AllocError>
+pub(crate) fn write_text(entries: &[Entry], into: &mut Vec<u8>) -> Result<(), AllocError>
     ensures { OnOk result (into.new.items ≡ into.old.items ++ journal_text entries.now) }
 {
     into.extend_from_slice(b"journal 1\n")?;
@@ -50,7 +50,7 @@ fn write_entry(entry: &Entry, into: &mut Vec<u8>) -> Result<(), AllocError>
 }
 
 /// A space and the number.
-fn write_number(n: u64, into: &mut Vec<u8>) -> Result<(), AllocError>
+pub(crate) fn write_number(n: u64, into: &mut Vec<u8>) -> Result<(), AllocError>
     ensures { OnOk result (into.new.items ≡ into.old.items ++ 32 ∷ decimal n) }
 {
     let mut buffer = Buffer::new();
