@@ -4,7 +4,9 @@ ghost use Rattle.firing_journal.specs.Journal.{JournalFits};
 
 use crate::table::agree;
 use conjunctive_compose::{System, Wish};
-use firing_journal::{Journal, Replay, project, read_journal, replay, write_journal};
+use firing_journal::{
+    Asked, Journal, Replay, Report, project, read_journal, replay, write_journal, write_report,
+};
 use samples::{EITHER, EITHER_TURN, LAMP, TURN, system, to_lines, to_slashes};
 use std::alloc::Global;
 use std::test::Fail;
@@ -59,6 +61,77 @@ fn pushed_told(alloc: Global) -> Result<String, Fail> {
 fn writes_what_is_pushed(rt: HostRuntime) -> Result<(), Fail> {
     let wanted = "2 journal 1/entry 0 3 1 0 5/entry 1 3 0 0 5/done/";
     agree(&rt, pushed_told(rt.alloc()), wanted)
+}
+
+/// What two callers were told, one of each kind of reply.
+const TOLD: &str =
+    "journal 1/entry 0 3 1 0 5/entry 1 3 0 0 5/done/report 1/caller 0/fired 1 0 5 0/away 1 0 5 1 1/blocked 0 0 5 1 1/caller 1/caller 2/seen 1 1 1/seenpair 0 2 3/end/";
+
+/// What the first caller was told of its wishes.
+fn asked(alloc: Global) -> Result<Vec<Asked>, Fail> {
+    let (on, other) = (
+        Wish {
+            process: 1,
+            arc: 0,
+            pick: 5,
+        },
+        Wish {
+            process: 0,
+            arc: 0,
+            pick: 5,
+        },
+    );
+    let mut list = Vec::new(alloc);
+    list.push(Asked::Fired {
+        wish: on,
+        number: 0,
+    })?;
+    list.push(Asked::Away {
+        wish: on,
+        local: 1,
+        at: 1,
+    })?;
+    list.push(Asked::Blocked {
+        wish: other,
+        neighbour: 1,
+        at: 1,
+    })?;
+    Ok(list)
+}
+
+/// What the last caller was shown.
+fn looked(alloc: Global) -> Result<Vec<Asked>, Fail> {
+    let mut list = Vec::new(alloc);
+    list.push(Asked::Seen {
+        process: 1,
+        moves: 1,
+        local: 1,
+    })?;
+    list.push(Asked::SeenPair {
+        edge: 0,
+        moves: 2,
+        state: 3,
+    })?;
+    Ok(list)
+}
+
+fn reported(alloc: Global) -> Result<String, Fail> {
+    let mut callers = Vec::new(alloc);
+    callers.push(asked(alloc)?)?;
+    callers.push(Vec::new(alloc))?;
+    callers.push(looked(alloc)?)?;
+    let report = Report {
+        journal: made(alloc, &BOTH_ON)?,
+        callers,
+    };
+    let mut bytes = Vec::new(alloc);
+    write_report(alloc, &report, &mut bytes)?;
+    to_slashes(alloc, &bytes)
+}
+
+#[test]
+fn writes_a_report(rt: HostRuntime) -> Result<(), Fail> {
+    agree(&rt, reported(rt.alloc()), TOLD)
 }
 
 /// What the run of the journal leaves, and what it does on edge 0.

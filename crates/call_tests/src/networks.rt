@@ -37,9 +37,9 @@ const FAULTS: &str = "0 | | |  = a network
 /// Rings of three philosophers, the second with its edges out of order, and a pair beside two who are alone.
 /// Of each process the neighbours, and then its plan.
 const NEIGHBOURS: &str =
-    "1 | 00 | 3*0 | 0-1:0 1-2:0 2-0:0 = [Beside { process: 1, edge: 0, side: A }, Beside { process: 2, edge: 2, side: B }] [0, 1, 2]; [Beside { process: 0, edge: 0, side: B }, Beside { process: 2, edge: 1, side: A }] [0, 1, 2]; [Beside { process: 0, edge: 2, side: A }, Beside { process: 1, edge: 1, side: B }] [0, 1, 2];
-1 | 00 | 3*0 | 2-0:0 1-2:0 0-1:0 = [Beside { process: 1, edge: 2, side: A }, Beside { process: 2, edge: 0, side: B }] [0, 1, 2]; [Beside { process: 0, edge: 2, side: B }, Beside { process: 2, edge: 1, side: A }] [0, 1, 2]; [Beside { process: 0, edge: 0, side: A }, Beside { process: 1, edge: 1, side: B }] [0, 1, 2];
-1 | 00 | 4*0 | 3-0:0 = [Beside { process: 3, edge: 0, side: B }] [0, 3]; [] [1]; [] [2]; [Beside { process: 0, edge: 0, side: A }] [0, 3];";
+    "1 | 00 | 3*0 | 0-1:0 1-2:0 2-0:0 = [Beside { process: 1, edge: 0, side: A }, Beside { process: 2, edge: 2, side: B }] [0, 2]; [Beside { process: 0, edge: 0, side: B }, Beside { process: 2, edge: 1, side: A }] [0, 1]; [Beside { process: 0, edge: 2, side: A }, Beside { process: 1, edge: 1, side: B }] [1, 2];
+1 | 00 | 3*0 | 2-0:0 1-2:0 0-1:0 = [Beside { process: 1, edge: 2, side: A }, Beside { process: 2, edge: 0, side: B }] [0, 2]; [Beside { process: 0, edge: 2, side: B }, Beside { process: 2, edge: 1, side: A }] [1, 2]; [Beside { process: 0, edge: 0, side: A }, Beside { process: 1, edge: 1, side: B }] [0, 1];
+1 | 00 | 4*0 | 3-0:0 = [Beside { process: 3, edge: 0, side: B }] [0]; [] [2]; [] [3]; [Beside { process: 0, edge: 0, side: A }] [0];";
 
 /// Lamps around process 0, by edges of two kinds, and the shapes of process 0. One arc leaves each local state of a
 /// lamp, so that a shape has two leaves, if there are as many edges.

@@ -25,7 +25,9 @@ use Rattle.firing_words.specs.History.{Firing, IsLatest, Knows, made_by, moves_b
 use Rattle.firing_words.specs.Lists.{Has, InTurn}
 use Rattle.firing_words.specs.Notes.{Follows, IsBehind, IsTrackOf, made_of}
 use Rattle.firing_words.specs.Plays.{Mine, commits}
-use Rattle.firing_words.specs.Rule.{Fits, IsKept, IsOwed, Kept, Past}
+use Rattle.firing_words.specs.Past.{Past}
+use Rattle.firing_words.specs.Rule.{Fits, IsKept, Kept}
+use Rattle.firing_words.specs.parts.Owing.{IsOwed}
 use Rattle.firing_words.specs.Views.{HoldsPlan, IsGuarded, Owes, callers_of, committed, track_does}
 use Rattle.firing_words.proofs.Cells.{guarded, guards_planned}
 use Rattle.firing_words.proofs.Few.{entries_few}

@@ -16,7 +16,9 @@ use Rattle.firing_words.specs.Cells.{Guards, HasContent, IsCell}
 use Rattle.firing_words.specs.History.{moves_in, packed}
 use Rattle.firing_words.specs.Lists.{Has, InTurn}
 use Rattle.firing_words.specs.Notes.{Follows, IsBehind, IsTrackOf, Stands, made_of}
-use Rattle.firing_words.specs.Rule.{Fits, IsKept, IsOwed, Past, word_at}
+use Rattle.firing_words.specs.Past.{Past, word_at}
+use Rattle.firing_words.specs.Rule.{Fits, IsKept}
+use Rattle.firing_words.specs.parts.Owing.{IsOwed}
 use Rattle.firing_words.specs.Views.{Owes, callers_of, does, track_does}
 use Rattle.firing_words.proofs.Histories.{settles}
 use Rattle.firing_words.proofs.Lists.{first_of, has_map, has_push, nothing_in}

@@ -15,7 +15,8 @@ use Rattle.firing_words.specs.Cells.{HasContent, IsCell, cell_word}
 use Rattle.firing_words.specs.History.{IsLatest, Knows, moves_in}
 use Rattle.firing_words.specs.Lists.{Has}
 use Rattle.firing_words.specs.Plays.{Mine, reading, reads}
-use Rattle.firing_words.specs.Rule.{Fits, IsKept, Kept, Past}
+use Rattle.firing_words.specs.Past.{Past}
+use Rattle.firing_words.specs.Rule.{Fits, IsKept, Kept}
 use Rattle.firing_words.specs.Views.{IsGuarded, knowing}
 use Rattle.firing_words.proofs.Cells.{content_small, guarded}
 use Rattle.firing_words.proofs.Few.{moves_few}

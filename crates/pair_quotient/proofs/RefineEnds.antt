@@ -11,7 +11,7 @@ use Rattle.std.proofs.lemmas.Map.Steps.{le-length_from_below}
 use Rattle.std.proofs.lemmas.Option.{same_Some, slice_get-get_or}
 use Rattle.pair_structure.specs.Structure.{Structure, label_at}
 use Rattle.pair_quotient.specs.Bisimulation.{IsBisimulation, Told}
-use Rattle.pair_quotient.specs.inside.Refining.{AreBlocks, AreRefined}
+use Rattle.pair_quotient.specs.inside.Refining.{AreBlocks, AreRefined, AreWaiting, IsSettled}
 
 none_settled : (n s : ℕ) → slice_index_or (replicate n false) s false ≡ true → ⊥
 none_settled zero s e = let h : false ≡ true = e in cc
@@ -66,3 +66,13 @@ none_left n e = eqb-true n 0 (sym e)
 pub empty_of : (xs : List ℕ) → length xs ≡ 0 → xs ≡ []
 empty_of [] e = refl
 empty_of (x ∷ xs) e = absurd (omega (arith, e))
+
+-- more states may wait
+pub AreRefined-roused : (m : Structure) (classes leaders : List ℕ) (members : List (List ℕ)) (settled settled' : List Bool) (waiting waiting' : List ℕ) → AreRefined m classes leaders members settled waiting → AreWaiting (length settled) settled' waiting' → ((s : ℕ) → IsSettled settled' s → IsSettled settled s)
+    → AreRefined m classes leaders members settled' waiting'
+AreRefined-roused m classes leaders members settled settled' waiting waiting' r waits fewer = record {
+  partition = r.partition;
+  blocks = r.blocks;
+  calm = record { matched = λ s t ls lt is it e. r.calm.matched s t ls lt (fewer s is) (fewer t it) e };
+  waits = subst (λ n. AreWaiting n settled' waiting') r.waits.long waits;
+}

@@ -10,6 +10,7 @@ mod naming;
 mod numbering;
 mod quotient;
 mod refining;
+mod rousing;
 mod shrinking;
 
 pub use shrinking::shrink;

@@ -112,10 +112,23 @@ fn unsettle(
     ensures fewer { (s : ℕ) → IsSettled settled.new s → IsSettled settled.old s }
     ensures unsettled { OnOk result (IsSettled settled.new state → IsAlone blocks.now.classes.items state) }
 {
-    if !settled[state as usize] {
+    if is_alone(blocks, state) {
         return Ok(());
     }
-    if is_alone(blocks, state) {
+    wake(settled, waiting, state)?;
+    Ok(())
+}
+
+/// Lets the state wait, if it does not.
+pub(crate) fn wake(settled: &mut [bool], waiting: &mut Vec<u64>, state: u64) -> Result<(), Memory>
+    requires state { state < length settled.old }
+    requires waiting { AreWaiting (length settled.old) settled.old waiting.old.items }
+    ensures waiting { OnOk result (AreWaiting (length settled.old) settled.new waiting.new.items) }
+    ensures fewer { (s : ℕ) → IsSettled settled.new s → IsSettled settled.old s }
+    ensures unsettled { OnOk result (IsSettled settled.new state → ⊥) }
+    ensures more { length waiting.old.items ≤ length waiting.new.items }
+{
+    if !settled[state as usize] {
         return Ok(());
     }
     waiting.push(state)?;

@@ -8,6 +8,7 @@ use crate::blocks::Blocks;
 use crate::electing::{blocks_of, elect_each};
 use crate::moving::{move_states, settle, unsettle_before};
 use crate::naming::{name_leaders, name_states};
+use crate::rousing::rouse;
 use ctl_form::Predecessors;
 use pair_structure::{Memory, PairStructure};
 use std::alloc::Global;
@@ -24,7 +25,14 @@ pub(crate) fn stable_blocks(alloc: Global, m: &PairStructure) -> Result<Blocks, 
     let mut settled = unsettled(alloc, states.len())?;
     let mut waiting = all_states(alloc, states.len())?;
     while !waiting.is_empty() {
-        waiting = refine(alloc, m, &predecessors, &mut blocks, &mut settled, &waiting)?;
+        waiting = pass(
+            alloc,
+            m,
+            &predecessors,
+            &mut blocks,
+            &mut settled,
+            &mut waiting,
+        )?;
     }
     Ok(blocks)
 }
@@ -44,6 +52,27 @@ fn all_states(alloc: Global, count: usize) -> Result<Vec<u64>, Memory>
         states.push(state as u64)?;
     }
     Ok(states)
+}
+
+/// One round: those who wait, and whom they rouse, are looked at.
+fn pass(
+    alloc: Global,
+    m: &PairStructure,
+    predecessors: &Predecessors,
+    blocks: &mut Blocks,
+    settled: &mut [bool],
+    waiting: &mut Vec<u64>,
+) -> Result<Vec<u64>, Memory>
+    requires goes_on { GoesOn m.now }
+    requires predecessors { ArePredecessors m.now predecessors.now.begins.items predecessors.now.sources.items }
+    requires refined { AreRefined m.now blocks.old.classes.items blocks.old.leaders.items blocks.old.members settled.old waiting.old.items }
+    ensures refined { IfOk result (λ next. AreRefined m.now blocks.new.classes.items blocks.new.leaders.items blocks.new.members settled.new next.items) }
+    ensures more { IfOk result (λ next. length blocks.old.leaders.items ≤ length blocks.new.leaders.items) }
+    ensures progress { IfOk result (λ next. (next.items ≡ []) ⊎ (length blocks.old.leaders.items < length blocks.new.leaders.items)) }
+{
+    rouse(alloc, blocks, settled, waiting)?;
+    let next = refine(alloc, m, predecessors, blocks, settled, waiting)?;
+    Ok(next)
 }
 
 /// Looks at each waiting state, and moves those that no longer match the leader of their block; gives the states that are to be looked at

@@ -1,8 +1,8 @@
 -- The moves of a side from a state, by their turn.
 use Rattle.std.proofs.Common.{ℕ, ◌≡◌, ◌<◌, ◌≤◌, ◌+◌, ◌==◌, true, false, List, length, get_or, take, drop, arith, filter, sym, ◌∙◌, ne_eqb, eq-eqb}
 use Rattle.std.proofs.lemmas.Bool.Decides.{nat_tests}
-use Rattle.std.proofs.lemmas.List.{get_or-drop, length-drop}
-use Rattle.std.specs.List.Sorted.{IsPartitionPoint}
+use Rattle.std.proofs.lemmas.List.{get_or-drop, get_or-take, length-drop, length-take}
+use Rattle.std.specs.List.Sorted.{IsNonDecreasingBy, IsPartitionPoint}
 use Rattle.pair_structure.specs.declared.side.Move.{Move}
 use Rattle.pair_structure.specs.declared.side.Side.{Side}
 use Rattle.pair_structure.specs.declared.side.Side.TheVariants.{A, B}
@@ -32,3 +32,13 @@ take_is_moves_of moves state side begin count earlier by within = take_is_filter
 
     not_here : (m : Move) → (turn m.from m.side ≡ turn state side → ⊥) → leaves state side m ≡ false
     not_here m differ = leaves_by_turn state m.from side m.side m.to ∙ ne_eqb _ _ differ
+
+-- where the first of the later turns is near, no other comes before it
+pub near_is_point : (moves : List Move) (n near count : ℕ) → IsNonDecreasingBy (λ (m : Move). turn m.from m.side) moves → near ≤ length moves → count < near
+    → IsPartitionPoint (λ (m : Move). turn m.from m.side ≤ n) (λ (m : Move). n < turn m.from m.side) (take near moves) count
+    → IsPartitionPoint (λ (m : Move). turn m.from m.side ≤ n) (λ (m : Move). n < turn m.from m.side) moves count
+near_is_point moves n near count rising within few point =
+    (λ k d low lt. rw (sym (get_or-take near moves k d (omega arith))) (point.0 k d low lt), λ k d from lt. omega (arith, first d, rising count k d from lt))
+  where
+    first : (d : Move) → n < turn (get_or moves count d).from (get_or moves count d).side
+    first d = rw (sym (get_or-take near moves count d few)) (point.1 count d (omega arith) (omega (arith, length-take near moves)))

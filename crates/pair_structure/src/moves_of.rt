@@ -1,5 +1,5 @@
 ghost use Rattle.std.specs.Prelude.{◌≡◌, ◌<◌, ◌≤◌, filter, length, nat_le, nat_lt};
-ghost use Rattle.std.specs.List.Sorted.{IsPartitionPoint};
+ghost use Rattle.std.specs.List.Sorted.{IsNonDecreasingBy, IsPartitionPoint};
 ghost use Rattle.pair_structure.specs.declared.side.Move.{Move};
 ghost use Rattle.pair_structure.specs.Ordinal.{leaves};
 ghost use Rattle.pair_structure.specs.Structure.{IsRising};
@@ -24,8 +24,25 @@ fn count_before(moves: &[Move], state: u64, side: Side) -> usize
     moves.partition_point(|m| comes_before(m, state, side))
 }
 
+/// So many moves are looked at before all are: most states have fewer of one side.
+const NEAR: usize = 16;
+
+/// How many moves come no later, of moves that rise. Where they are few, they stand near the first.
 fn count_by(moves: &[Move], state: u64, side: Side) -> usize
     requires { IsRising moves.now }
+    ensures bound { result ≤ length moves.now }
+    ensures point { IsPartitionPoint (λ (m : Move). turn m.from m.side ≤ turn state side) (λ (m : Move). turn state side < turn m.from m.side) moves.now result }
+{
+    let near = moves.len().min(NEAR);
+    let count = count_within(&moves[..near], state, side);
+    if count < near {
+        return count;
+    }
+    count_within(moves, state, side)
+}
+
+fn count_within(moves: &[Move], state: u64, side: Side) -> usize
+    requires { IsNonDecreasingBy (λ (m : Move). turn m.from m.side) moves.now }
     ensures bound { result ≤ length moves.now }
     ensures point { IsPartitionPoint (λ (m : Move). turn m.from m.side ≤ turn state side) (λ (m : Move). turn state side < turn m.from m.side) moves.now result }
 {

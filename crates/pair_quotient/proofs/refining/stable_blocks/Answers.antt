@@ -15,7 +15,7 @@ loop-alloc-init c = AreRefined-from_outset c.args.m.now c.states-states.result.n
 pub loop-alloc-smaller : goal.loop-alloc-smaller
 loop-alloc-smaller c =
     let few = few_blocks _ _ _ _ c.in_ok-waiting-2.ensures.refined.blocks in
-    falls (length c.args.m.now.states) (length c.loop-alloc.blocks.leaders.items) (length c.refine.new.blocks.leaders.items) (length c.in_ok-waiting-2.waiting.items) (length c.loop-alloc.waiting.items) (omega (arith, some_left _ c.loop-alloc-test.ensures, c.loop-alloc.waiting.ok)) c.in_ok-waiting-2.ensures.more few (elim c.in_ok-waiting-2.ensures.progress [ inl e ↦ inl (ap length e) | inr lt ↦ inr lt ])
+    falls (length c.args.m.now.states) (length c.loop-alloc.blocks.leaders.items) (length c.pass.new.blocks.leaders.items) (length c.in_ok-waiting-2.waiting.items) (length c.loop-alloc.waiting.items) (omega (arith, some_left _ c.loop-alloc-test.ensures, c.loop-alloc.waiting.ok)) c.in_ok-waiting-2.ensures.more few (elim c.in_ok-waiting-2.ensures.progress [ inl e ↦ inl (ap length e) | inr lt ↦ inr lt ])
 
 pub returns : goal.returns
 returns c = record { stable = IsStable-refined _ _ _ _ _ _ (empty_of _ (omega (arith, none_left _ c.loop-alloc-test.ensures, c.loop-alloc.waiting.ok))) c.loop-alloc.invariant; within = λ s lt. c.loop-alloc.invariant.blocks.within s (let long = c.loop-alloc.invariant.blocks.long in omega (arith, lt, long)) }

@@ -41,7 +41,7 @@ unreachable-requires c =
       lists_are = c.skeleton.ensures.lists;
     } in
     let after_is : c.with_local-after.result ≡ with_local b.side (label_at (structure_at sys b.edge).states s) (arc_of sys c.args.wish.process c.args.wish.arc).to =
-        c.with_local-after.ensures ∙ (λ i. with_local b.side (label_at (states_are i) s) (c.arc.ensures i).to) in
+    c.with_local-after.ensures ∙ (λ i. with_local b.side (label_at (states_are i) s) (c.arc.ensures i).to) in
     let there = next_exists sys c.args.wish b s c.local_of-other.result c.ordinal-x.result c.in-Some.set c.skeleton.result.now c.skeleton.ensures.system r.fits r.beside r.left found c.in-Some.ensures.some in
     c.in-None.ensures there.0 (subst (λ (q : List (ℕ × ℕ) × (ℕ × ℕ)). IsStateAt q.0 q.1 c.in-Some.set there.0) (λ i. ((sym m_is i).states, sym after_is i)) there.1)
 
@@ -60,6 +60,6 @@ returns-clause-some c =
       lists_are = c.skeleton.ensures.lists;
     } in
     let after_is : c.with_local-after.result ≡ with_local b.side (label_at (structure_at sys b.edge).states s) (arc_of sys c.args.wish.process c.args.wish.arc).to =
-        c.with_local-after.ensures ∙ (λ i. with_local b.side (label_at (states_are i) s) (c.arc.ensures i).to) in
+    c.with_local-after.ensures ∙ (λ i. with_local b.side (label_at (states_are i) s) (c.arc.ensures i).to) in
     next_told sys c.args.wish b s c.local_of-other.result c.ordinal-x.result c.in-Some.set c.in-Some-state_at.next c.skeleton.result.now c.skeleton.ensures.system r.fits r.beside r.left found c.in-Some.ensures.some
-        (subst (λ (q : List (ℕ × ℕ) × (ℕ × ℕ)). IsStateAt q.0 q.1 c.in-Some.set c.in-Some-state_at.next) (λ i. ((m_is i).states, after_is i)) c.in-Some-state_at.ensures)
+    (subst (λ (q : List (ℕ × ℕ) × (ℕ × ℕ)). IsStateAt q.0 q.1 c.in-Some.set c.in-Some-state_at.next) (λ i. ((m_is i).states, after_is i)) c.in-Some-state_at.ensures)
