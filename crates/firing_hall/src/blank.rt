@@ -14,7 +14,7 @@ pub(crate) struct Blank {
     pub(crate) lists: Vec<Vec<Asked>>,
 }
 
-// How many replies the passes keep, or the greatest number.
+/// How many replies the passes keep, or the greatest number.
 fn count_kept(passes: &[Pass]) -> usize
     ensures { (kept_in passes.now ≤ result) ⊎ (result ≡ 2 ^ 64 - 1) }
 {

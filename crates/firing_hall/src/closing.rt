@@ -10,7 +10,7 @@ use firing_journal::{Asked, Entry, Journal, Report};
 use firing_words::Hand;
 use std::alloc::Global;
 
-/// Why a hall was not closed; hall and passes are handed back.
+/// Why a hall was not closed; hall and passes are handed back as they were.
 #[derive(Drop)]
 pub enum CloseFault {
     /// There are fewer passes than callers.
@@ -20,6 +20,7 @@ pub enum CloseFault {
         have: u32,
         need: u32,
     },
+    /// There are as many passes as callers, and memory for the report was missing.
     Memory {
         hall: Hall,
         passes: Vec<Pass>,
@@ -32,7 +33,7 @@ impl Hall {
     ghost use Rattle.firing_hall.specs.Passes.{IsPassOf};
     ghost use Rattle.firing_journal.specs.Report.{IsLawful, lists_of};
 
-    // The journal and the lists, once all passes are taken in.
+    /// The journal and the lists, once all passes are taken in.
     fn report(&self, main: &mut Hand, mut entries: Vec<Entry>, lists: Vec<Vec<Asked>>) -> Report
         requires main { IsOf self.now.words main.old }
         requires size { length lists.items ≡ self.now.words.setting.callers }
@@ -53,7 +54,7 @@ impl Hall {
         }
     }
 
-    // Fills a blank report.
+    /// Fills a blank report.
     fn close_into(&self, passes: Vec<Pass>, blank: Blank) -> Report
         requires passes { All (IsPassOf self.now) passes.items }
         requires whole { self.now.words.setting.callers ≤ length passes.items }
@@ -68,7 +69,8 @@ impl Hall {
         self.report(&mut main, entries, lists)
     }
 
-    /// The report: the one history of this hall as its journal, and list c as what caller c was answered. The hall ends.
+    /// Ends the hall: its one history is the report's journal, and list c is what pass c was told, whatever the order in which the passes
+    /// are handed back. All memory is taken before the first pass is joined. Linear in the replies.
     pub fn close(self, alloc: Global, passes: Vec<Pass>) -> Result<Report, CloseFault>
         requires passes { All (IsPassOf self) passes.items }
         ensures err { IfErr result (IsCloseFaultOf self passes.items) }

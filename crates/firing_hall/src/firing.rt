@@ -10,7 +10,7 @@ use crate::{Gate, Reply};
 use conjunctive_compose::{System, Wish};
 use firing_words::{Hand, Reading, Words};
 
-/// The words that callers fire.
+/// A system that many callers fire at once, from threads of their own. Each call takes `&self`, so threads share it by reference.
 #[derive(Drop)]
 pub struct Hall {
     pub(crate) words: Words,

@@ -8,7 +8,7 @@ ghost use Rattle.firing_hall.specs.Reports.{AreListsOf, all_placed, makings_of, 
 use conjunctive_compose::Wish;
 use firing_journal::{Asked, Entry};
 
-// Puts a firing at its place; other replies have none.
+/// Puts a firing at its place; other replies have none.
 fn place_one(entries: &mut [Entry], caller: u32, item: Asked)
     requires within { (m : Making) → Has m (makings_of (item ∷ [])) → m.number < length entries.old }
     ensures { entries.new ≡ placed entries.old caller (item ∷ []) }
@@ -50,7 +50,7 @@ fn place_lists(entries: &mut [Entry], lists: &[Vec<Asked>])
     }
 }
 
-// So many entries of no matter.
+/// So many entries of no matter.
 fn fill(entries: &mut Vec<Entry>, count: usize)
     requires empty { entries.old.items ≡ [] }
     requires space { count ≤ vec_capacity entries.old }

@@ -14,7 +14,7 @@ impl Hall {
     ghost use Rattle.firing_hall.specs.Passes.{IsPassOf};
     ghost use Rattle.firing_hall.specs.declared.pass.Pass.{Pass};
 
-    // Joins a pass, and puts its list at its caller's number.
+    /// Joins a pass, and puts its list at its caller's number.
     fn take_in(&self, main: &mut Hand, pass: Pass, lists: &mut [Vec<Asked>])
         requires main { IsOf self.now.words main.old × IsQuiet (view main.old) }
         requires pass { IsPassOf self.now pass }
@@ -42,7 +42,7 @@ impl Hall {
         lists[at] = asked;
     }
 
-    // The first pass that is taken.
+    /// The first pass that is taken.
     fn begin(&self, pass: Pass, lists: &mut [Vec<Asked>]) -> Hand
         requires pass { IsPassOf self.now pass }
         requires size { length lists.old ≡ self.now.words.setting.callers }
@@ -68,7 +68,7 @@ impl Hall {
         hand
     }
 
-    // Joins all passes.
+    /// Joins all passes.
     fn take_rest(&self, main: &mut Hand, mut passes: Vec<Pass>, lists: &mut [Vec<Asked>])
         requires main { IsOf self.now.words main.old × IsQuiet (view main.old) }
         requires passes { All (IsPassOf self.now) passes.items }

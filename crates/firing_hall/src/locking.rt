@@ -14,7 +14,7 @@ impl Hall {
     ghost use Rattle.firing_words.specs.declared.view.Try.{Try};
     ghost use Rattle.firing_hall.specs.Tries.{HaveLost, IsRefused, try_at};
 
-    // Takes one lock with the tries that are left, or says who had it at the last of them.
+    /// Takes one lock with the tries that are left, or says who had it at the last of them.
     fn take_one(
         &self,
         hand: &mut Hand,

@@ -9,13 +9,14 @@ use conjunctive_compose::System;
 use firing_words::{Hand, Words};
 use std::alloc::Global;
 
-/// Why no hall was opened; the system is given back.
+/// Why no hall was opened; the system is given back. The first that stands is told.
 #[derive(Debug, Drop)]
 pub enum HallFault {
     /// A hall has 1 to 64 callers.
     Callers { system: System },
     /// Each caller has room for 1 to 65,536 replies.
     Room { system: System },
+    /// Memory was missing for the words or for a pass.
     Memory { system: System },
 }
 
@@ -26,7 +27,8 @@ impl Hall {
     ghost use Rattle.firing_hall.specs.Passes.{IsPassOf};
     ghost use Rattle.firing_hall.specs.Opening.{ArePasses, IsFaultOf, IsFresh, IsRoom, MayCall};
 
-    /// The hall of a system at its start, and a pass for each caller: pass number c has caller number c, and no reply yet.
+    /// The hall of a system at its start, and a pass for each caller: pass number c has caller number c, and no reply yet. No call takes
+    /// memory after this one, up to the close. Linear in the system, and in callers and room.
     pub fn open(
         alloc: Global,
         system: System,
@@ -51,7 +53,7 @@ impl Hall {
         }
     }
 
-    // The same for fitting numbers, where only memory may be missing.
+    /// The same for fitting numbers, where only memory may be missing.
     fn open_within(
         alloc: Global,
         system: System,
@@ -64,7 +66,6 @@ impl Hall {
         ensures hall { IfOk result (λ r. (system_of r.0.words ≡ system) × (r.0.words.setting.callers ≡ callers) × (r.0.words.setting.room ≡ room)) }
         ensures passes { IfOk result (λ r. ArePasses r.0 callers r.1.items) }
     {
-        let _network = system.network();
         let Ok(parts) = make_parts(alloc, &system, callers, room) else {
             return Err(system);
         };
@@ -81,7 +82,7 @@ impl Hall {
         }
     }
 
-    // A hand and a part make a pass.
+    /// A hand and a part make a pass.
     fn make_pass(&self, hand: Hand, part: Part, caller: u32) -> Pass
         requires hand { IsOf self.now.words hand × (view hand ≡ opened_from caller 1) }
         requires part { IsPartFor (system_of self.now.words) self.now.words.setting.room part }
@@ -99,7 +100,7 @@ impl Hall {
         }
     }
 
-    // A pass for each caller, from its hand and a part.
+    /// A pass for each caller, from its hand and a part.
     fn hand_out(&self, mut hands: Vec<Hand>, mut parts: Vec<Part>, passes: &mut Vec<Pass>)
         requires hands { AreDealt self.now.words self.now.words.setting.callers hands.items }
         requires parts { All (IsPartFor (system_of self.now.words) self.now.words.setting.room) parts.items }

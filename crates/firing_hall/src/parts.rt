@@ -17,7 +17,7 @@ pub(crate) struct Part {
     pub(crate) scratch: Scratch,
 }
 
-// The greatest number of edges of a process.
+/// The greatest number of edges of a process.
 fn widest(system: &System) -> usize
     ensures each { (k : ℕ) → k < process_count system.now → degree_of system.now.network.edges k ≤ result }
     ensures few { result ≤ 64 }

@@ -1,4 +1,4 @@
-//! A caller's pass, and what it keeps of its calls.
+//! A caller's pass, what it keeps of its calls, and firing with it.
 ghost use Rattle.std.specs.Prelude.{◌≡◌, ◌<◌, ◌-◌, ◌↔◌, length};
 ghost use Rattle.conjunctive_compose.specs.Firing.{WishFits};
 ghost use Rattle.firing_hall.specs.Passes.{kept_of};
@@ -10,7 +10,8 @@ use conjunctive_compose::Wish;
 use firing_journal::Asked;
 use firing_words::Hand;
 
-/// A caller's token: its number, its replies, and its room.
+/// A caller's token: its number, what it was told, and its room. It is of the hall that the same `Hall::open` made, which every call that
+/// takes both asks for. It goes to a thread of its own by value.
 #[derive(Drop)]
 pub struct Pass {
     pub(crate) hand: Hand,
@@ -43,6 +44,7 @@ impl Pass {
     }
 }
 
+/// What a pass keeps of a reply: nothing of Full and of Busy.
 fn asked_of(wish: Wish, reply: Reply) -> Option<Asked>
     ensures { result ≡ kept_of wish reply }
 {

@@ -4,6 +4,8 @@
 #[cfg(test)]
 mod acts;
 #[cfg(test)]
+mod closes;
+#[cfg(test)]
 mod example;
 #[cfg(test)]
 mod gates;

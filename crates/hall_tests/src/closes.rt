@@ -1,0 +1,84 @@
+//! Passes that are handed back: too few of them, all, and in another order; numbers of callers and of replies that no hall has.
+ghost use Rattle.std.specs.Prelude.{All, IfOk};
+ghost use Rattle.firing_hall.specs.Passes.{IsPassOf};
+
+use crate::acts::told;
+use crate::halls::{closed, opened, text_of};
+use firing_hall::{CloseFault, Hall, HallFault, Pass};
+use samples::{LAMP, TURN, system};
+use std::alloc::Global;
+use std::test::Fail;
+
+/// The fault of a close, with hall and passes.
+fn missing(alloc: Global, hall: Hall, passes: Vec<Pass>) -> Result<(Hall, Vec<Pass>, u32, u32), Fail>
+    requires { All (IsPassOf hall) passes.items }
+    ensures { IfOk result (λ r. All (IsPassOf r.0) r.1.items) }
+{
+    match hall.close(alloc, passes) {
+        Err(CloseFault::Missing {
+            hall,
+            passes,
+            have,
+            need,
+        }) => Ok((hall, passes, have, need)),
+        _ => Err(Fail::from("a pass is missing")),
+    }
+}
+
+/// Three of four passes are too few; with the fourth the hall is closed.
+#[test]
+fn wants_all_passes(rt: HostRuntime) -> Result<(), Fail> {
+    let alloc = rt.alloc();
+    let system = system(alloc, LAMP, TURN, "2*0", "0-1:0")?;
+    let (hall, mut passes) = opened(alloc, system, 4, 1)?;
+    let Some(last) = passes.pop() else {
+        return Err(Fail::from("a pass"));
+    };
+    let (hall, mut passes, have, need) = missing(alloc, hall, passes)?;
+    assert_eq!(rt; (have, need), (3, 4));
+    passes.push(last)?;
+    let report = closed(alloc, hall, passes)?;
+    assert_eq!(rt; report.callers.len(), 4);
+    Ok(())
+}
+
+/// The report of two lamps' callers, with the passes handed back in this order or in the other.
+fn turned(alloc: Global, turn: bool) -> Result<String, Fail> {
+    let system = system(alloc, LAMP, TURN, "2*0", "0-1:0")?;
+    let (hall, mut passes) = opened(alloc, system, 2, 2)?;
+    told(alloc, &hall, passes.as_mut_slice(), "1 fire 1/0/0, 0 fire 0/0/0, 1 look 0")?;
+    if turn {
+        passes.as_mut_slice().reverse();
+    }
+    let report = closed(alloc, hall, passes)?;
+    text_of(alloc, &report)
+}
+
+#[test]
+fn closes_in_any_order(rt: HostRuntime) -> Result<(), Fail> {
+    let text = turned(rt.alloc(), false)?;
+    assert_eq!(rt; turned(rt.alloc(), true)?.as_str(), text.as_str());
+    Ok(())
+}
+
+/// What the hall of these numbers is refused for.
+fn fault(alloc: Global, callers: u32, room: u32) -> Result<&'static str, Fail> {
+    let system = system(alloc, LAMP, TURN, "2*0", "0-1:0")?;
+    match Hall::open(alloc, system, callers, room) {
+        Ok(_) => Ok("none"),
+        Err(HallFault::Callers { .. }) => Ok("callers"),
+        Err(HallFault::Room { .. }) => Ok("room"),
+        Err(HallFault::Memory { .. }) => Ok("memory"),
+    }
+}
+
+#[test]
+fn refuses_numbers_out_of_range(rt: HostRuntime) -> Result<(), Fail> {
+    let alloc = rt.alloc();
+    assert_eq!(rt; fault(alloc, 0, 0)?, "callers");
+    assert_eq!(rt; fault(alloc, 65, 1)?, "callers");
+    assert_eq!(rt; fault(alloc, 64, 0)?, "room");
+    assert_eq!(rt; fault(alloc, 1, 65537)?, "room");
+    assert_eq!(rt; fault(alloc, 64, 1)?, "none");
+    Ok(())
+}
