@@ -10,17 +10,23 @@ use std::alloc::Global;
 use std::test::Fail;
 
 /// The fault of a close, with hall and passes.
-fn missing(alloc: Global, hall: Hall, passes: Vec<Pass>) -> Result<(Hall, Vec<Pass>, u32, u32), Fail>
+fn missing(
+    alloc: Global,
+    hall: Hall,
+    passes: Vec<Pass>,
+) -> Result<(Hall, Vec<Pass>, u32, u32), Fail>
     requires { All (IsPassOf hall) passes.items }
     ensures { IfOk result (λ r. All (IsPassOf r.0) r.1.items) }
 {
     match hall.close(alloc, passes) {
-        Err(CloseFault::Missing {
-            hall,
-            passes,
-            have,
-            need,
-        }) => Ok((hall, passes, have, need)),
+        Err(
+            CloseFault::Missing {
+                hall,
+                passes,
+                have,
+                need,
+            },
+        ) => Ok((hall, passes, have, need)),
         _ => Err(Fail::from("a pass is missing")),
     }
 }
@@ -46,7 +52,12 @@ fn wants_all_passes(rt: HostRuntime) -> Result<(), Fail> {
 fn turned(alloc: Global, turn: bool) -> Result<String, Fail> {
     let system = system(alloc, LAMP, TURN, "2*0", "0-1:0")?;
     let (hall, mut passes) = opened(alloc, system, 2, 2)?;
-    told(alloc, &hall, passes.as_mut_slice(), "1 fire 1/0/0, 0 fire 0/0/0, 1 look 0")?;
+    told(
+        alloc,
+        &hall,
+        passes.as_mut_slice(),
+        "1 fire 1/0/0, 0 fire 0/0/0, 1 look 0",
+    )?;
     if turn {
         passes.as_mut_slice().reverse();
     }
@@ -80,5 +91,27 @@ fn refuses_numbers_out_of_range(rt: HostRuntime) -> Result<(), Fail> {
     assert_eq!(rt; fault(alloc, 64, 0)?, "room");
     assert_eq!(rt; fault(alloc, 1, 65537)?, "room");
     assert_eq!(rt; fault(alloc, 64, 1)?, "none");
+    Ok(())
+}
+
+/// Of 64 callers the last, the first and the last but one fire.
+#[test]
+fn tells_64_callers(rt: HostRuntime) -> Result<(), Fail> {
+    let alloc = rt.alloc();
+    let system = system(alloc, LAMP, TURN, "2*0", "0-1:0")?;
+    let (hall, mut passes) = opened(alloc, system, 64, 1)?;
+    let acts = "63 fire 1/0/0, 0 fire 0/0/0, 62 fire 1/1/0";
+    let told = told(alloc, &hall, passes.as_mut_slice(), acts)?;
+    let wanted = "Fired { number: 0 }, Fired { number: 1 }, Fired { number: 2 }, ";
+    assert_eq!(rt; told.as_str(), wanted);
+    let report = closed(alloc, hall, passes)?;
+    let text = text_of(alloc, &report)?;
+    let journal =
+        "journal 1/entry 0 63 1 0 0/entry 1 0 0 0 0/entry 2 62 1 1 0/done/report 1/caller 0/fired 0 0 0 1/caller 1/";
+    assert!(rt; text.as_str().starts_with(journal));
+    assert!(rt;
+        text.as_str()
+            .ends_with("/caller 62/fired 1 1 0 2/caller 63/fired 1 0 0 0/end/")
+    );
     Ok(())
 }

@@ -97,7 +97,8 @@ fn gate_told(
 /// Inside, another caller of the one edge loses each of its tries, and keeps no reply of it.
 #[test]
 fn is_busy_inside_the_gate_of_a_neighbour(rt: HostRuntime) -> Result<(), Fail> {
-    let wanted = "Busy { lock: 0, holder: 0 }, Fired { number: 0 }, 0: journal 1/entry 0 0 1 0 0/done/report 1/caller 0/fired 1 0 0 0/caller 1/end/";
+    let wanted =
+        "Busy { lock: 0, holder: 0 }, Fired { number: 0 }, 0: journal 1/entry 0 0 1 0 0/done/report 1/caller 0/fired 1 0 0 0/caller 1/end/";
     let alloc = rt.alloc();
     for tries in 1..4 {
         let system = system(alloc, LAMP, TURN, "2*0", "0-1:0")?;
@@ -112,7 +113,8 @@ fn is_busy_inside_the_gate_of_a_neighbour(rt: HostRuntime) -> Result<(), Fail> {
 fn fires_inside_the_gate_of_a_process_that_it_shares_no_edge_with(
     rt: HostRuntime,
 ) -> Result<(), Fail> {
-    let wanted = "Fired { number: 0 }, Fired { number: 1 }, 1: Seen { moves: 1, state: 1 }, Seen { moves: 1, state: 2 }, journal 1/entry 0 1 2 0 0/entry 1 0 0 0 0/done/report 1/caller 0/fired 0 0 0 1/seenpair 0 1 1/seenpair 1 1 2/caller 1/fired 2 0 0 0/end/";
+    let wanted =
+        "Fired { number: 0 }, Fired { number: 1 }, 1: Seen { moves: 1, state: 1 }, Seen { moves: 1, state: 2 }, journal 1/entry 0 1 2 0 0/entry 1 0 0 0 0/done/report 1/caller 0/fired 0 0 0 1/seenpair 0 1 1/seenpair 1 1 2/caller 1/fired 2 0 0 0/end/";
     let alloc = rt.alloc();
     let system = system(alloc, BOUND, FIRST, "3*0", "0-1:0 1-2:0")?;
     let acts = "0 pair 0, 0 pair 1";

@@ -12,7 +12,8 @@ use std::test::Fail;
 
 /// Two lamps that are switched on in turn, and off in turn. Away at the start; fired, seen, blocked and full; blocked and full without a
 /// look; what a second caller sees of what the first one's returned call did.
-const LAMPS: &str = "2*0 | 0-1:0 | 1 1 | 0 fire 0/1/0 = Away { local: 0, at: 0 }, journal 1/done/report 1/caller 0/away 0 1 0 0 0/end/
+const LAMPS: &str =
+    "2*0 | 0-1:0 | 1 1 | 0 fire 0/1/0 = Away { local: 0, at: 0 }, journal 1/done/report 1/caller 0/away 0 1 0 0 0/end/
 2*0 | 0-1:0 | 1 3 | 0 fire 1/0/0, 0 look 1, 0 fire 1/1/18446744073709551615, 0 fire 0/0/0, 0 look 0 = Fired { number: 0 }, Seen { moves: 1, local: 1 }, Blocked { neighbour: 0, at: 1 }, Full, Full, journal 1/entry 0 0 1 0 0/done/report 1/caller 0/fired 1 0 0 0/seen 1 1 1/blocked 1 1 18446744073709551615 0 1/end/
 2*0 | 0-1:0 | 1 2 | 0 keep 1/0/0, 0 fire 1/1/18446744073709551615, 0 fire 0/0/0 = Fired { number: 0 }, Blocked { neighbour: 0, at: 1 }, Full, journal 1/entry 0 0 1 0 0/done/report 1/caller 0/fired 1 0 0 0/blocked 1 1 18446744073709551615 0 1/end/
 2*0 | 0-1:0 | 2 2 | 0 fire 1/0/0, 1 look 1, 1 fire 0/0/0 = Fired { number: 0 }, Seen { moves: 1, local: 1 }, Fired { number: 1 }, journal 1/entry 0 0 1 0 0/entry 1 1 0 0 0/done/report 1/caller 0/fired 1 0 0 0/caller 1/seen 1 1 1/fired 0 0 0 1/end/
@@ -20,7 +21,8 @@ const LAMPS: &str = "2*0 | 0-1:0 | 1 1 | 0 fire 0/1/0 = Away { local: 0, at: 0 }
 
 /// One process without neighbours; three philosophers whose edges are declared out of order, of which the middle one is blocked first by
 /// the lower of its neighbours.
-const PHILOSOPHERS: &str = "0 |  | 1 3 | 0 fire 0/0/0, 0 fire 0/1/0, 0 fire 0/2/0 = Fired { number: 0 }, Fired { number: 1 }, Fired { number: 2 }, journal 1/entry 0 0 0 0 0/entry 1 0 0 1 0/entry 2 0 0 2 0/done/report 1/caller 0/fired 0 0 0 0/fired 0 1 0 1/fired 0 2 0 2/end/
+const PHILOSOPHERS: &str =
+    "0 |  | 1 3 | 0 fire 0/0/0, 0 fire 0/1/0, 0 fire 0/2/0 = Fired { number: 0 }, Fired { number: 1 }, Fired { number: 2 }, journal 1/entry 0 0 0 0 0/entry 1 0 0 1 0/entry 2 0 0 2 0/done/report 1/caller 0/fired 0 0 0 0/fired 0 1 0 1/fired 0 2 0 2/end/
 3*0 | 1-2:0 0-2:0 0-1:0 | 1 4 | 0 fire 1/0/0, 0 fire 0/0/0, 0 fire 2/0/0, 0 fire 2/1/0 = Fired { number: 0 }, Fired { number: 1 }, Fired { number: 2 }, Blocked { neighbour: 0, at: 3 }, journal 1/entry 0 0 1 0 0/entry 1 0 0 0 0/entry 2 0 2 0 0/done/report 1/caller 0/fired 1 0 0 0/fired 0 0 0 1/fired 2 0 0 2/blocked 2 1 0 0 3/end/";
 
 /// What callers are told, and the report of their passes.

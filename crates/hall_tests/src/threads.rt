@@ -62,12 +62,7 @@ fn fires_on_four_threads(rt: HostRuntime) -> Result<(), Fail> {
     let alloc = rt.alloc();
     let joins = "0-1:0 0-2:0 0-3:0 0-4:0";
     let again = system(alloc, BOUND, FIRST, "5*0", joins)?;
-    let (hall, passes) = opened(
-        alloc,
-        system(alloc, BOUND, FIRST, "5*0", joins)?,
-        4,
-        1000,
-    )?;
+    let (hall, passes) = opened(alloc, system(alloc, BOUND, FIRST, "5*0", joins)?, 4, 1000)?;
     let passes = on_threads(&rt, &hall, passes)?;
     let report = closed(alloc, hall, passes)?;
     assert!(rt; replays(alloc, &again, &report)?);
