@@ -278,7 +278,8 @@ class Starts(unittest.TestCase):
 class Kept(unittest.TestCase):
     """The certificates in `examples/`, each beside the solution of its name."""
     def test_certificates(self):
-        names = [file[:-12] for file in os.listdir(EXAMPLES) if file.endswith(".certificate") and file != "circle.certificate"]
+        files = set(os.listdir(EXAMPLES)) - {"circle.certificate"}  # which is refused
+        names = sorted(file[:-12] for file in files if file.endswith(".certificate"))
         self.assertGreater(len(names), 10)
         for name in names:
             spec, solution = example(f"{name}.pairs"), example(f"{name}.solution")
@@ -289,7 +290,7 @@ class Kept(unittest.TestCase):
 
 
 class Tutorial(unittest.TestCase):
-    """The commands of docs/TUTORIAL.md, in a folder of their own, with what the page shows. `..` stands for any lines."""
+    """The commands of docs/TUTORIAL.md, in a folder of their own, and what the page shows. `..` is any lines."""
     def test_commands(self):
         room = os.path.join(ROOM.name, "tutorial")
         os.makedirs(room)
@@ -301,9 +302,10 @@ class Tutorial(unittest.TestCase):
         page = read_text(os.path.join(TOP, "docs", "TUTORIAL.md"))
         blocks = re.findall(r"^    \$ (.*)\n((?:    (?!\$ ).*\n)*)", page, re.M)
         self.assertGreater(len(blocks), 10)
+        env = {**os.environ, "SKELETON_RUN": os.path.abspath(program()), "PYTHONDONTWRITEBYTECODE": "1"}
         for command, shown in blocks:
             done = subprocess.run(["bash", "-c", command], cwd=room, stdout=subprocess.PIPE, stderr=subprocess.PIPE,
-                                  env={**os.environ, "SKELETON_RUN": os.path.abspath(program())}, text=True)
+                                  env=env, text=True)
             lines = [".*" if line == "    .." else re.escape(line[4:]) + "\n" for line in shown.splitlines()]
             self.assertTrue(re.fullmatch("".join(lines), done.stdout, re.S), f"{command}: {done.stdout}{done.stderr}")
 
