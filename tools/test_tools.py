@@ -13,13 +13,14 @@ from itertools import product
 
 sys.dont_write_bytecode = True
 from judge import read_certificate, verdict, whole_states  # noqa: E402
-from pairs import TOP, Spec, alone, call, free_arcs, read_solution, read_spec  # noqa: E402
+from pairs import TOP, Spec, alone, call, free_arcs, program, read_solution, read_spec  # noqa: E402
 from pairs import read_text, solution_text, spec_text  # noqa: E402
 
 EXAMPLES = os.path.join(TOP, "examples")
 ROOM = tempfile.TemporaryDirectory()
-WITHOUT = {"quiet", "right_of_way"}  # examples without a structure
-WAITING = {"circle", "drinkers", "grid", "printer", "priority", "token"}  # examples of which what `synth` gives waits somewhere
+WITHOUT = {"quiet", "right_of_way", "shaft_free"}  # examples without a structure
+# Examples of which what `synth` gives waits somewhere.
+WAITING = {"circle", "drinkers", "grid", "printer", "priority", "shaft_safe", "token"}
 
 
 def tool(name, *words, status=0):
@@ -87,7 +88,7 @@ class Pictures(unittest.TestCase):
 
 class Why(unittest.TestCase):
     def test_no_structure(self):
-        for name, size in (("quiet", 2), ("right_of_way", 5)):
+        for name, size in (("quiet", 2), ("right_of_way", 5), ("shaft_free", 5)):
             spec = read_spec(example(f"{name}.pairs"))
             kind = next(iter(spec.kinds))
             given = [line.strip() for line in tool("why", example(f"{name}.pairs")).splitlines()[1:]]
@@ -272,6 +273,41 @@ class Starts(unittest.TestCase):
         self.spec.kinds["turns"].clauses = ["a.L"]
         path = in_room("clauses.pairs", spec_text(self.spec))
         self.assertIn("it fails at the start, state 2 (R L)", tool("why", path, self.pair[1]))
+
+
+class Kept(unittest.TestCase):
+    """The certificates in `examples/`, each beside the solution of its name."""
+    def test_certificates(self):
+        files = set(os.listdir(EXAMPLES)) - {"circle.certificate"}  # which is refused
+        names = sorted(file[:-12] for file in files if file.endswith(".certificate"))
+        self.assertGreater(len(names), 10)
+        for name in names:
+            spec, solution = example(f"{name}.pairs"), example(f"{name}.solution")
+            text = tool("certificate", spec, solution)
+            self.assertEqual(text, read_text(example(f"{name}.certificate")), name)
+            self.assertEqual(verdict(read_spec(spec), read_solution(solution), text), "accepted", name)
+            self.assertEqual(whole_states(read_spec(spec), read_solution(solution))[1], [], name)
+
+
+class Tutorial(unittest.TestCase):
+    """The commands of docs/TUTORIAL.md, in a folder of their own, and what the page shows. `..` is any lines."""
+    def test_commands(self):
+        room = os.path.join(ROOM.name, "tutorial")
+        os.makedirs(room)
+        for folder in ("examples", "tools"):
+            os.symlink(os.path.join(TOP, folder), os.path.join(room, folder))
+        with open(os.path.join(room, "skeleton_run"), "w") as file:
+            file.write(f'#!/bin/sh\nexec "{program()}" "$@"\n')
+        os.chmod(os.path.join(room, "skeleton_run"), 0o755)
+        page = read_text(os.path.join(TOP, "docs", "TUTORIAL.md"))
+        blocks = re.findall(r"^    \$ (.*)\n((?:    (?!\$ ).*\n)*)", page, re.M)
+        self.assertGreater(len(blocks), 10)
+        env = {**os.environ, "SKELETON_RUN": os.path.abspath(program()), "PYTHONDONTWRITEBYTECODE": "1"}
+        for command, shown in blocks:
+            done = subprocess.run(["bash", "-c", command], cwd=room, stdout=subprocess.PIPE, stderr=subprocess.PIPE,
+                                  env=env, text=True)
+            lines = [".*" if line == "    .." else re.escape(line[4:]) + "\n" for line in shown.splitlines()]
+            self.assertTrue(re.fullmatch("".join(lines), done.stdout, re.S), f"{command}: {done.stdout}{done.stderr}")
 
 
 class Mended(unittest.TestCase):
