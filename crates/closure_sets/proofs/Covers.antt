@@ -64,7 +64,7 @@ module _ (c : ClosureParts) (easy : ℕ → Bool) (clash : Members → Bool) (ch
   met_other : (row treated : Members) (m : ℕ) → row m ≡ true → ((f g : ℕ) (all weak : Bool) → part_of c m ≡ Until all weak f g → ⊥) → IsMet c chosen Is row treated → IsMet c chosen Is row (add treated m)
   met_other row treated m there not_until h = met_treat row treated m there (λ f g all weak p. absurd (not_until f g all weak p)) (λ f g weak p. absurd (not_until f g false weak p)) h
 
-  either_met : (row treated : Members) (m f g : ℕ) → row m ≡ true → part_of c m ≡ Either f g → IsMet c chosen Is row treated → Is f ⊎ Is g → Among (λ r. IsMet c chosen Is r (add treated m)) (ways c easy row m (Either f g))
+  either_met : (row treated : Members) (m f g : ℕ) → row m ≡ true → part_of c m ≡ Either f g → IsMet c chosen Is row treated → Is f ⊎ Is g → Among (λ r. IsMet c chosen Is r (add treated m)) (ways c None easy row m (Either f g))
   either_met row treated m f g there p h is = if_cases (Among (λ r. IsMet c chosen Is r (add treated m))) (row f || row g) (row ∷ []) _ (λ _. inl (met_other row treated m there other h))
       (λ _. if_cases (Among (λ r. IsMet c chosen Is r (add treated m))) (easy f) (add row f ∷ []) _ (λ e. inl (with f (t.plain f e)))
       (λ _. if_cases (Among (λ r. IsMet c chosen Is r (add treated m))) (easy g) (add row g ∷ []) _ (λ e. inl (with g (t.plain g e)))
@@ -83,7 +83,7 @@ module _ (c : ClosureParts) (easy : ℕ → Bool) (clash : Members → Bool) (ch
   with_goal : (row treated : Members) (m f g : ℕ) (all weak : Bool) → row m ≡ true → row g ≡ true → part_of c m ≡ Until all weak f g → IsMet c chosen Is row treated → IsMet c chosen Is row (add treated m)
   with_goal row treated m f g all weak there has p h = met_treat row treated m there (λ f' g' all' weak' p' _. subst (λ k. row k ≡ true) (same_goal (part_of c m) all all' weak weak' f f' g g' p p') has) (λ f' g' weak' p' none. absurd (none (h.holds g' (subst (λ k. row k ≡ true) (same_goal (part_of c m) all false weak weak' f f' g g' p p') has)))) h
 
-  later_met : (row treated : Members) (m f g : ℕ) (all weak : Bool) → row m ≡ true → part_of c m ≡ Until all weak f g → IsMet c chosen Is row treated → (Is g → ⊥) → Among (λ r. IsMet c chosen Is r (add treated m)) (later_rows c all row m f)
+  later_met : (row treated : Members) (m f g : ℕ) (all weak : Bool) → row m ≡ true → part_of c m ≡ Until all weak f g → IsMet c chosen Is row treated → (Is g → ⊥) → Among (λ r. IsMet c chosen Is r (add treated m)) (later_rows c None all row m f)
   later_met row treated m f g true weak there p h none = inl (met_treat rest treated m (add_keeps (add (add row f) (after c A m)) (after c B m) m (add_keeps (add row f) (after c A m) m (add_keeps row f m there))) (λ f' g' all' weak' p' y. absurd (none (subst Is (sym (same_goal (part_of c m) true all' weak weak' f f' g g' p p')) y))) (λ f' g' weak' p'. absurd (differ p p')) met)
     where
       rest : Members
@@ -107,11 +107,11 @@ module _ (c : ClosureParts) (easy : ℕ → Bool) (clash : Members → Bool) (ch
           (λ f' g' weak' p' _. subst (λ k. add (add row f) (after c side m) (after c k m) ≡ true) (sym e) (add_same (add row f) (after c side m)))
           (met_add (add row f) treated (after c side m) (subst (λ k. Is (after c k m)) e parts.1) (met_add row treated f parts.0 h))
 
-      by_side : (side : Side) → chosen m ≡ side → Among (λ r. IsMet c chosen Is r (add treated m)) (later_rows c false row m f)
+      by_side : (side : Side) → chosen m ≡ side → Among (λ r. IsMet c chosen Is r (add treated m)) (later_rows c None false row m f)
       by_side A e = inl (one A e)
       by_side B e = inr (inl (one B e))
 
-  until_met : (row treated : Members) (m f g : ℕ) (all weak : Bool) → row m ≡ true → part_of c m ≡ Until all weak f g → IsMet c chosen Is row treated → Is g ⊎ (Is g → ⊥) → Among (λ r. IsMet c chosen Is r (add treated m)) (ways c easy row m (Until all weak f g))
+  until_met : (row treated : Members) (m f g : ℕ) (all weak : Bool) → row m ≡ true → part_of c m ≡ Until all weak f g → IsMet c chosen Is row treated → Is g ⊎ (Is g → ⊥) → Among (λ r. IsMet c chosen Is r (add treated m)) (ways c None easy row m (Until all weak f g))
   until_met row treated m f g all weak there p h d = if_cases (Among (λ r. IsMet c chosen Is r (add treated m))) (row g) (row ∷ []) _ (λ has. inl (with_goal row treated m f g all weak there has p h))
       (λ _. if_cases (Among (λ r. IsMet c chosen Is r (add treated m))) (easy g) (add row g ∷ []) _ (λ e. inl (now (t.plain g e)))
       (λ _. elim d [ inl y ↦ inl (now y) | inr none ↦ inr (later_met row treated m f g all weak there p h none) ]))
@@ -119,7 +119,7 @@ module _ (c : ClosureParts) (easy : ℕ → Bool) (clash : Members → Bool) (ch
       now : Is g → IsMet c chosen Is (add row g) (add treated m)
       now y = with_goal (add row g) treated m f g all weak (add_keeps row g m there) (add_same row g) p (met_add row treated g y h)
 
-  ways_met : (row treated : Members) (m : ℕ) (part : Part) → row m ≡ true → part_of c m ≡ part → IsMet c chosen Is row treated → Among (λ r. IsMet c chosen Is r (add treated m)) (ways c easy row m part)
+  ways_met : (row treated : Members) (m : ℕ) (part : Part) → row m ≡ true → part_of c m ≡ part → IsMet c chosen Is row treated → Among (λ r. IsMet c chosen Is r (add treated m)) (ways c None easy row m part)
   ways_met row treated m (Both f g) there p h = let u = t.both m f g p (h.holds m there) in inl (met_other (add (add row f) g) treated m (add_keeps (add row f) g m (add_keeps row f m there)) (λ f' g' all weak e. cc) (met_add (add row f) treated g u.1 (met_add row treated f u.0 h)))
   ways_met row treated m (Either f g) there p h = either_met row treated m f g there p h (t.either m f g p (h.holds m there))
   ways_met row treated m (Until all weak f g) there p h = until_met row treated m f g all weak there p h (t.decided g)
@@ -153,14 +153,14 @@ module _ (c : ClosureParts) (easy : ℕ → Bool) (clash : Members → Bool) (ch
   at_lowest_met row treated None f l h go = finish_met row (whole row treated (λ i lt e. both_false (row i) (treated i) (l i lt) e) h)
   at_lowest_met row treated (Some m) f l h go = let u = and_parts (row m) (not (treated m)) l.1 in go m l.0 u.0 (not-true (treated m) u.1)
 
-  expand_met : (d : ℕ) (row treated : Members) → untreated (count c) treated ≤ d → IsMet c chosen Is row treated → Among (IsMetRow c chosen Is) (expand c easy clash d row treated)
+  expand_met : (d : ℕ) (row treated : Members) → untreated (count c) treated ≤ d → IsMet c chosen Is row treated → Among (IsMetRow c chosen Is) (expand c None easy clash d row treated)
   expand_met zero row treated le h = if_cases (Among (IsMetRow c chosen Is)) (clash row) [] _ (λ bad. absurd (t.consistent row h.holds bad)) (λ _. finish_met row (whole row treated (λ i lt _. all_treated (count c) treated le i lt) h))
   expand_met (suc d) row treated le h = if_cases (Among (IsMetRow c chosen Is)) (clash row) [] _ (λ bad. absurd (t.consistent row h.holds bad))
       (λ _. at_lowest_met row treated (lowest (count c) (is_open row treated)) _ (lowest_is (count c) (is_open row treated)) h
-      (λ m lt there fresh. among_of (IsMetRow c chosen Is) (λ r. expand c easy clash d r (add treated m)) (ways c easy row m (part_of c m)) (among_map (λ r. IsMet c chosen Is r (add treated m)) (λ r. Among (IsMetRow c chosen Is) (expand c easy clash d r (add treated m))) (ways c easy row m (part_of c m)) (λ r k. expand_met d r (add treated m) (omega (arith, untreated_less (count c) treated m lt fresh)) k) (ways_met row treated m (part_of c m) there refl h))))
+      (λ m lt there fresh. among_of (IsMetRow c chosen Is) (λ r. expand c None easy clash d r (add treated m)) (ways c None easy row m (part_of c m)) (among_map (λ r. IsMet c chosen Is r (add treated m)) (λ r. Among (IsMetRow c chosen Is) (expand c None easy clash d r (add treated m))) (ways c None easy row m (part_of c m)) (λ r k. expand_met d r (add treated m) (omega (arith, untreated_less (count c) treated m lt fresh)) k) (ways_met row treated m (part_of c m) there refl h))))
 
 -- the rows cover, over any truth of members
-pub expand_covers : (c : ClosureParts) (easy : ℕ → Bool) (clash : Members → Bool) (chosen : ℕ → Side) (Is : ℕ → Type 0) → HasSome c → IsTruth c easy clash chosen Is → (seed : Members) → ((i : ℕ) → seed i ≡ true → Is i) → Among (IsMetRow c chosen Is) (expand c easy clash (count c) seed no_members)
+pub expand_covers : (c : ClosureParts) (easy : ℕ → Bool) (clash : Members → Bool) (chosen : ℕ → Side) (Is : ℕ → Type 0) → HasSome c → IsTruth c easy clash chosen Is → (seed : Members) → ((i : ℕ) → seed i ≡ true → Is i) → Among (IsMetRow c chosen Is) (expand c None easy clash (count c) seed no_members)
 expand_covers c easy clash chosen Is some t seed h = expand_met c easy clash chosen Is some t (count c) seed no_members (untreated_all (count c) no_members) (record { holds = h; kept = λ i e. absurd (never e); goal = λ i f g all weak p e. absurd (never e); pursued = λ i f g weak p e. absurd (never e) })
   where
     never : false ≡ true → ⊥

@@ -40,7 +40,7 @@ has_goal : (c : ClosureParts) (row : Members) (i f g : ℕ) (all weak : Bool) �
 has_goal c row i f g true weak e = inl e
 has_goal c row i f g false weak e = inl e
 
-each_append : (X : Members → Type 0) (rs qs : List Members) → EachRow X rs → EachRow X qs → EachRow X (rs ++ qs)
+pub each_append : (X : Members → Type 0) (rs qs : List Members) → EachRow X rs → EachRow X qs → EachRow X (rs ++ qs)
 each_append X [] qs h k = k
 each_append X (r ∷ rs) qs h k = (h.0, each_append X rs qs h.1 k)
 
@@ -56,12 +56,12 @@ each_map X Y (r ∷ rs) f h = (f r h.0, each_map X Y rs f h.1)
 abbrev pub AreRight : ClosureParts → ℕ × ℕ → Members → Type 0
 AreRight c label row = (i : ℕ) → i < count c → Has row i → wrong_of c label i ≡ false
 
-module _ (c : ClosureParts) (label : ℕ × ℕ) (easy : ℕ → Bool) (clash : Members → Bool) (right : (row : Members) → clash row ≡ false → AreRight c label row) (seed : Members) (some : (side : Side) → (f : ℕ) × (part_of c (some_move c side) ≡ Next false side f)) where
+module _ (c : ClosureParts) (only : Option Side) (label : ℕ × ℕ) (easy : ℕ → Bool) (clash : Members → Bool) (right : (row : Members) → clash row ≡ false → AreRight c label row) (seed : Members) (some : (side : Side) → (f : ℕ) × (part_of c (some_move c side) ≡ Next false side f)) where
   -- a larger row in which the member m is met too
   treat : (row row' treated : Members) (m : ℕ) → Has row m → Within row row' → MeetsPart c row' m (part_of c m) → IsDone c seed row treated → IsDone c seed row' (add treated m)
   treat row row' treated m there up here h = record { seeded = λ i e. up i (h.seeded i e); kept = λ i e. elim (add_back treated m i e) [ inl q ↦ subst (λ k. Has row' k) (sym q) (up m there) | inr t ↦ up i (h.kept i t) ]; meets = λ i e. elim (add_back treated m i e) [ inl q ↦ subst (λ k. MeetsPart c row' k (part_of c k)) (sym q) here | inr t ↦ meets_more c row row' up i (part_of c i) (h.meets i t) ] }
 
-  later_done : (row treated : Members) (m f g : ℕ) (all weak : Bool) → Has row m → part_of c m ≡ Until all weak f g → IsDone c seed row treated → EachRow (λ r. IsDone c seed r (add treated m)) (later_rows c all row m f)
+  later_done : (row treated : Members) (m f g : ℕ) (all weak : Bool) → Has row m → part_of c m ≡ Until all weak f g → IsDone c seed row treated → EachRow (λ r. IsDone c seed r (add treated m)) (later_rows c only all row m f)
   later_done row treated m f g true weak there p h = (treat row r3 treated m there (λ i e. add_keeps r2 b i (add_keeps r1 a i (add_keeps row f i e))) (subst (MeetsPart c r3 m) (sym p) (inr (add_keeps r2 b f (add_keeps r1 a f (add_same row f)), add_keeps r2 b a (add_same r1 a), add_same r2 b))) h, tt)
     where
       a : ℕ
@@ -78,12 +78,17 @@ module _ (c : ClosureParts) (label : ℕ × ℕ) (easy : ℕ → Bool) (clash : 
 
       r3 : Members
       r3 = add r2 b
-  later_done row treated m f g false weak there p h = (one A (inl (add_same (add row f) (after c A m))), (one B (inr (add_same (add row f) (after c B m))), tt))
+  later_done row treated m f g false weak there p h = by only
     where
       one : (side : Side) → Has (add (add row f) (after c side m)) (after c A m) ⊎ Has (add (add row f) (after c side m)) (after c B m) → IsDone c seed (add (add row f) (after c side m)) (add treated m)
       one side e = treat row (add (add row f) (after c side m)) treated m there (λ i x. add_keeps (add row f) (after c side m) i (add_keeps row f i x)) (subst (MeetsPart c (add (add row f) (after c side m)) m) (sym p) (inr (add_keeps (add row f) (after c side m) f (add_same row f), e))) h
 
-  ways_done : (row treated : Members) (m : ℕ) (part : Part) → Has row m → part_of c m ≡ part → IsDone c seed row treated → EachRow (λ r. IsDone c seed r (add treated m)) (ways c easy row m part)
+      by : (o : Option Side) → EachRow (λ r. IsDone c seed r (add treated m)) (later_rows c o false row m f)
+      by None = (one A (inl (add_same (add row f) (after c A m))), (one B (inr (add_same (add row f) (after c B m))), tt))
+      by (Some A) = (one A (inl (add_same (add row f) (after c A m))), tt)
+      by (Some B) = (one B (inr (add_same (add row f) (after c B m))), tt)
+
+  ways_done : (row treated : Members) (m : ℕ) (part : Part) → Has row m → part_of c m ≡ part → IsDone c seed row treated → EachRow (λ r. IsDone c seed r (add treated m)) (ways c only easy row m part)
   ways_done row treated m (Both f g) there p h = (treat row (add (add row f) g) treated m there (λ i e. add_keeps (add row f) g i (add_keeps row f i e)) (subst (MeetsPart c (add (add row f) g) m) (sym p) (add_keeps (add row f) g f (add_same row f), add_same (add row f) g)) h, tt)
   ways_done row treated m (Either f g) there p h = if_cases (EachRow (λ r. IsDone c seed r (add treated m))) (row f || row g) (row ∷ []) _ (λ e. (treat row row treated m there (λ i x. x) (subst (MeetsPart c row m) (sym p) (or_cases (row f) (row g) e)) h, tt))
       (λ _. if_cases (EachRow (λ r. IsDone c seed r (add treated m))) (easy f) (add row f ∷ []) _ (λ _. (one f (inl (add_same row f)), tt))
@@ -121,15 +126,15 @@ module _ (c : ClosureParts) (label : ℕ × ℕ) (easy : ℕ → Bool) (clash : 
   at_lowest_full row treated None f l fits h go = finish_full row treated fits (λ i lt e. both_false (row i) (treated i) (l i lt) e) h
   at_lowest_full row treated (Some m) f l fits h go = let u = and_parts (row m) (not (treated m)) l.1 in go m l.0 u.0 (not-true (treated m) u.1)
 
-  expand_full : (d : ℕ) (row treated : Members) → untreated (count c) treated ≤ d → IsDone c seed row treated → EachRow (IsExpansion c label seed) (expand c easy clash d row treated)
+  expand_full : (d : ℕ) (row treated : Members) → untreated (count c) treated ≤ d → IsDone c seed row treated → EachRow (IsExpansion c label seed) (expand c only easy clash d row treated)
   expand_full zero row treated le h = if_cases (EachRow (IsExpansion c label seed)) (clash row) [] _ (λ _. tt) (λ e. finish_full row treated (right row e) (λ i lt _. all_treated (count c) treated le i lt) h)
   expand_full (suc d) row treated le h = if_cases (EachRow (IsExpansion c label seed)) (clash row) [] _ (λ _. tt)
       (λ e. at_lowest_full row treated (lowest (count c) (is_open row treated)) _ (lowest_is (count c) (is_open row treated)) (right row e) h
-      (λ m lt there fresh. each_of (IsExpansion c label seed) (λ r. expand c easy clash d r (add treated m)) (ways c easy row m (part_of c m)) (each_map (λ r. IsDone c seed r (add treated m)) (λ r. EachRow (IsExpansion c label seed) (expand c easy clash d r (add treated m))) (ways c easy row m (part_of c m)) (λ r k. expand_full d r (add treated m) (omega (arith, untreated_less (count c) treated m lt fresh)) k) (ways_done row treated m (part_of c m) there refl h))))
+      (λ m lt there fresh. each_of (IsExpansion c label seed) (λ r. expand c only easy clash d r (add treated m)) (ways c only easy row m (part_of c m)) (each_map (λ r. IsDone c seed r (add treated m)) (λ r. EachRow (IsExpansion c label seed) (expand c only easy clash d r (add treated m))) (ways c only easy row m (part_of c m)) (λ r k. expand_full d r (add treated m) (omega (arith, untreated_less (count c) treated m lt fresh)) k) (ways_done row treated m (part_of c m) there refl h))))
 
 -- the rows of an expansion, whatever test the members pass
-pub rows_are_full : (c : ClosureParts) (label : ℕ × ℕ) (easy : ℕ → Bool) (clash : Members → Bool) → ((row : Members) → clash row ≡ false → AreRight c label row) → (seed : Members) → ((side : Side) → (f : ℕ) × (part_of c (some_move c side) ≡ Next false side f)) → EachRow (IsExpansion c label seed) (expand c easy clash (count c) seed no_members)
-rows_are_full c label easy clash right seed some = expand_full c label easy clash right seed some (count c) seed no_members (untreated_all (count c) no_members) (record { seeded = λ i e. e; kept = λ i e. absurd (never e); meets = λ i e. absurd (never e) })
+pub rows_are_full : (c : ClosureParts) (only : Option Side) (label : ℕ × ℕ) (easy : ℕ → Bool) (clash : Members → Bool) → ((row : Members) → clash row ≡ false → AreRight c label row) → (seed : Members) → ((side : Side) → (f : ℕ) × (part_of c (some_move c side) ≡ Next false side f)) → EachRow (IsExpansion c label seed) (expand c only easy clash (count c) seed no_members)
+rows_are_full c only label easy clash right seed some = expand_full c only label easy clash right seed some (count c) seed no_members (untreated_all (count c) no_members) (record { seeded = λ i e. e; kept = λ i e. absurd (never e); meets = λ i e. absurd (never e) })
   where
     never : false ≡ true → ⊥
     never e = cc

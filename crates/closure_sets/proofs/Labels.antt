@@ -11,12 +11,13 @@ use Rattle.ctl_form.specs.Truth.{Holds, HasLocal}
 use Rattle.ctl_form.specs.declared.part.Part.{Part}
 use Rattle.ctl_form.specs.declared.part.Part.TheVariants.{Yes, No, Lit, Both, Either, Next, Until}
 use Rattle.closure_sets.specs.ClosureParts.{ClosureParts, IsClosureParts, count}
-use Rattle.closure_sets.specs.Cover.{ExpansionIsFull}
-use Rattle.closure_sets.specs.Expansion.{clashes, lowest, is_shared}
+use Rattle.closure_sets.specs.Cover.{ExpansionIsFull, OneSidedIsFull}
+use Rattle.closure_sets.specs.Expansion.{clashes, expansion_along, lowest, is_shared}
+use Rattle.closure_sets.specs.Full.{EachRow, IsExpansion}
 use Rattle.closure_sets.specs.Label.{part_of, form_of, is_local, value, not_value, value_of_two, and_of, or_of, is_yes, is_plain, is_wrong, wrong_of}
 use Rattle.closure_sets.specs.Row.{Members}
 use Rattle.closure_sets.proofs.Closures.{form_is}
-use Rattle.closure_sets.proofs.FullRows.{AreRight, rows_are_full}
+use Rattle.closure_sets.proofs.FullRows.{AreRight, each_append, rows_are_full}
 use Rattle.closure_sets.proofs.Sets.{IsLowest, lowest_is}
 
 -- what a truth value says of a fact
@@ -134,5 +135,11 @@ has_not false b e h = absurd (let q : false ≡ true = h in cc)
 pub no_clash_right : (c : ClosureParts) (label : ℕ × ℕ) (row : Members) → clashes c label row ≡ false → AreRight c label row
 no_clash_right c label row e i lt has = has_not (row i) (wrong_of c label i) (none_lowest (count c) (is_shared row (wrong_of c label)) (lowest (count c) (is_shared row (wrong_of c label))) (lowest_is (count c) (is_shared row (wrong_of c label))) e i lt) has
 
+pub along_is_full : (only : Option Side) (c : ClosureParts) (label : ℕ × ℕ) (seed : Members) → IsClosureParts c → EachRow (IsExpansion c label seed) (expansion_along only c label seed)
+along_is_full only c label seed k = rows_are_full c only label (is_plain c label) (clashes c label) (no_clash_right c label) seed (λ side. (k.moves.0, (k.moves.3 side).1))
+
 pub expansion_is_full : ExpansionIsFull
-expansion_is_full c label seed k = rows_are_full c label (is_plain c label) (clashes c label) (no_clash_right c label) seed (λ side. (k.moves.0, (k.moves.3 side).1))
+expansion_is_full = along_is_full None
+
+pub one_sided_is_full : OneSidedIsFull
+one_sided_is_full c label seed k = each_append (IsExpansion c label seed) (expansion_along (Some A) c label seed) (expansion_along (Some B) c label seed) (along_is_full (Some A) c label seed k) (along_is_full (Some B) c label seed k)

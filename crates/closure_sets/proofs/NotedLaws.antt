@@ -1,8 +1,9 @@
 -- Rows noted one after another.
 use Rattle.std.proofs.Common.{ℕ, zero, suc, ◌≡◌, ◌-◌, inl, inr, Bool, false, Option, Some, None, List, [], ◌∷◌, ◌++◌, refl, subst, sym, ap, ◌∙◌, arith, append-nil}
+use Rattle.pair_structure.specs.declared.side.Side.{Side}
 use Rattle.closure_sets.specs.ClosureParts.{ClosureParts, count}
 use Rattle.std.specs.Prelude.{if◌then◌else◌}
-use Rattle.closure_sets.specs.Expansion.{expand, expansion, ways, lowest, is_open, clashes, finish, at_lowest, rows_of, no_members}
+use Rattle.closure_sets.specs.Expansion.{expand, expansion_along, ways, lowest, is_open, clashes, finish, at_lowest, rows_of, no_members}
 use Rattle.closure_sets.specs.Firsts.{IsOneOf, IsNoted, AreNoted, AreFirsts}
 use Rattle.closure_sets.specs.Full.{EachRow, Among}
 use Rattle.closure_sets.specs.Label.{part_of, is_plain}
@@ -10,6 +11,7 @@ use Rattle.closure_sets.specs.Row.{Members, add, set_of}
 use Rattle.closure_sets.specs.inside.Ways.{ways_rows, with_row, treat_rows}
 use Rattle.closure_sets.specs.declared.row.Row.{Row}
 use Rattle.closure_sets.specs.declared.ways.Ways.{Ways}
+use Rattle.closure_sets.proofs.FullRows.{each_append}
 
 pub noted_append : (before between after xs ys : List Members) → AreNoted before xs between → AreNoted between ys after → AreNoted before (xs ++ ys) after
 noted_append before between after [] ys h k = subst (λ (b : List Members). AreNoted b ys after) h k
@@ -17,10 +19,6 @@ noted_append before between after (x ∷ xs) ys h k = (h.0, h.1, noted_append h.
 
 pub noted_one : (before after : List Members) (r : Members) → IsNoted before r after → AreNoted before (r ∷ []) after
 noted_one before after r h = (after, h, refl)
-
-each_append : (X : Members → Type 0) (rs qs : List Members) → EachRow X rs → EachRow X qs → EachRow X (rs ++ qs)
-each_append X [] qs h k = k
-each_append X (r ∷ rs) qs h k = (h.0, each_append X rs qs h.1 k)
 
 each_noted : (X : Members → Type 0) (before after : List Members) (r : Members) → IsNoted before r after → EachRow X before → X r → EachRow X after
 each_noted X before after r (inl h) each x = subst (EachRow X) (sym h.1) each
@@ -76,23 +74,25 @@ pub way_noted : (f : Members → List Members) (way : Option Row) (r : Row) (bef
 way_noted f way r before after e h = subst (λ (o : Option Row). AreNoted before (rows_of f (with_row o [])) after) (sym e) (subst (λ (l : List Members). AreNoted before l after) (sym (append-nil (f (set_of r.words)))) h)
 
 -- an expansion that treats its lowest open member
-pub expand_noted : (c : ClosureParts) (easy : ℕ → Bool) (clash : Members → Bool) (left : ℕ) (row treated more : Members) (member : ℕ) (rows before after : List Members) → clash row ≡ false → (left ≡ 0 → ⊥) → lowest (count c) (is_open row treated) ≡ Some member → more ≡ add treated member → rows ≡ ways c easy row member (part_of c member)
-    → AreNoted before (treat_rows c easy clash (left - 1) more rows) after → AreNoted before (expand c easy clash left row treated) after
-expand_noted c easy clash zero row treated more member rows before after fits some e f g h = absurd (some refl)
-expand_noted c easy clash (suc d) row treated more member rows before after fits some e f g h = subst (λ (l : List Members). AreNoted before l after) whole h
+pub expand_noted : (c : ClosureParts) (only : Option Side) (easy : ℕ → Bool) (clash : Members → Bool) (left : ℕ) (row treated more : Members) (member : ℕ) (rows before after : List Members) → clash row ≡ false → (left ≡ 0 → ⊥) → lowest (count c) (is_open row treated) ≡ Some member → more ≡ add treated member → rows ≡ ways c only easy row member (part_of c member)
+    → AreNoted before (treat_rows c only easy clash (left - 1) more rows) after → AreNoted before (expand c only easy clash left row treated) after
+expand_noted c only easy clash zero row treated more member rows before after fits some e f g h = absurd (some refl)
+expand_noted c only easy clash (suc d) row treated more member rows before after fits some e f g h = subst (λ (l : List Members). AreNoted before l after) whole h
   where
     expansions : Option ℕ → List Members
-    expansions o = at_lowest o (finish c row) (λ m. rows_of (λ r. expand c easy clash d r (add treated m)) (ways c easy row m (part_of c m)))
+    expansions o = at_lowest o (finish c row) (λ m. rows_of (λ r. expand c only easy clash d r (add treated m)) (ways c only easy row m (part_of c m)))
 
     less : suc d - 1 ≡ d
     less = omega arith
 
-    whole : treat_rows c easy clash (suc d - 1) more rows ≡ (if clash row then [] else expansions (lowest (count c) (is_open row treated)))
-    whole = ap (λ k. treat_rows c easy clash k more rows) less ∙ ap (λ (t : Members). treat_rows c easy clash d t rows) f ∙ ap (treat_rows c easy clash d (add treated member)) g ∙ ap expansions (sym e) ∙ ap (λ b. if b then [] else expansions (lowest (count c) (is_open row treated))) (sym fits)
+    whole : treat_rows c only easy clash (suc d - 1) more rows ≡ (if clash row then [] else expansions (lowest (count c) (is_open row treated)))
+    whole = ap (λ k. treat_rows c only easy clash k more rows) less ∙ ap (λ (t : Members). treat_rows c only easy clash d t rows) f ∙ ap (treat_rows c only easy clash d (add treated member)) g ∙ ap expansions (sym e) ∙ ap (λ b. if b then [] else expansions (lowest (count c) (is_open row treated))) (sym fits)
 
--- an expansion from nothing, at the label that was noted
-pub noted_firsts : (c : ClosureParts) (a b x y left : ℕ) (seed treated : Members) (before after rows : List Members) → x ≡ a → y ≡ b → left ≡ count c → treated ≡ no_members → before ≡ [] → after ≡ rows → AreNoted before (expand c (is_plain c (x, y)) (clashes c (x, y)) left seed treated) after → AreFirsts (expansion c (a, b) seed) rows
-noted_firsts c a b x y left seed treated before after rows d e f g p q h =
-    subst (AreNoted [] (expansion c (a, b) seed)) q
-    (subst (λ (w : List Members). AreNoted w (expansion c (a, b) seed) after) p
-    (subst (λ (l : List Members). AreNoted before l after) (ap (λ (n : ℕ). expand c (is_plain c (n, y)) (clashes c (n, y)) left seed treated) d ∙ ap (λ (n : ℕ). expand c (is_plain c (a, n)) (clashes c (a, n)) left seed treated) e ∙ ap (λ k. expand c (is_plain c (a, b)) (clashes c (a, b)) k seed treated) f ∙ ap (expand c (is_plain c (a, b)) (clashes c (a, b)) (count c) seed) g) h))
+-- an expansion along the side and at the label that were noted
+pub noted_along : (c : ClosureParts) (only said : Option Side) (a b x y left : ℕ) (seed treated : Members) (before after : List Members) → said ≡ only → x ≡ a → y ≡ b → left ≡ count c → treated ≡ no_members → AreNoted before (expand c said (is_plain c (x, y)) (clashes c (x, y)) left seed treated) after → AreNoted before (expansion_along only c (a, b) seed) after
+noted_along c only said a b x y left seed treated before after o d e f g h =
+    subst (λ (l : List Members). AreNoted before l after) (ap (λ (s : Option Side). expand c s (is_plain c (x, y)) (clashes c (x, y)) left seed treated) o ∙ ap (λ (n : ℕ). expand c only (is_plain c (n, y)) (clashes c (n, y)) left seed treated) d ∙ ap (λ (n : ℕ). expand c only (is_plain c (a, n)) (clashes c (a, n)) left seed treated) e ∙ ap (λ k. expand c only (is_plain c (a, b)) (clashes c (a, b)) k seed treated) f ∙ ap (expand c only (is_plain c (a, b)) (clashes c (a, b)) (count c) seed) g) h
+
+-- what was noted from nothing
+pub noted_firsts : (all before after rows : List Members) → before ≡ [] → after ≡ rows → AreNoted before all after → AreFirsts all rows
+noted_firsts all before after rows p q h = subst (AreNoted [] all) q (subst (λ (w : List Members). AreNoted w all after) p h)

@@ -5,7 +5,7 @@ use Rattle.pair_structure.specs.declared.side.Side.{Side}
 use Rattle.ctl_form.specs.Truth.{Holds}
 use Rattle.ctl_form.specs.declared.part.Part.TheVariants.{Until}
 use Rattle.closure_sets.specs.ClosureParts.{ClosureParts, IsClosureParts, count, after}
-use Rattle.closure_sets.specs.Expansion.{expansion}
+use Rattle.closure_sets.specs.Expansion.{expansion, one_sided}
 use Rattle.closure_sets.specs.Full.{Among, EachRow, IsExpansion}
 use Rattle.closure_sets.specs.Label.{part_of, form_of}
 use Rattle.closure_sets.specs.Row.{Members}
@@ -35,6 +35,10 @@ AreCover c label seed rows = (m : Structure) → GoesOn m → (s : ℕ) → s < 
 -- The rows of an expansion are fully expanded.
 abbrev pub ExpansionIsFull : Type 0
 ExpansionIsFull = (c : ClosureParts) (label : ℕ × ℕ) (seed : Members) → IsClosureParts c → EachRow (IsExpansion c label seed) (expansion c label seed)
+
+-- The rows of one side are fully expanded.
+abbrev pub OneSidedIsFull : Type 0
+OneSidedIsFull = (c : ClosureParts) (label : ℕ × ℕ) (seed : Members) → IsClosureParts c → EachRow (IsExpansion c label seed) (one_sided c label seed)
 
 -- The rows of an expansion cover.
 abbrev pub ExpansionCovers : Type 0

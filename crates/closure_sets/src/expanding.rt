@@ -1,7 +1,7 @@
 ghost use Rattle.std.specs.Prelude.{◌≡◌, ◌<◌, ◌≤◌, ◌||◌, [], IfOk, OnOk};
 ghost use Rattle.closure_sets.specs.ClosureParts.{count};
 ghost use Rattle.closure_sets.specs.Cover.{AreCover};
-ghost use Rattle.closure_sets.specs.Expansion.{expand, expansion, finish, clashes, rows_of};
+ghost use Rattle.closure_sets.specs.Expansion.{expand, expansion, one_sided, finish, clashes, rows_of};
 ghost use Rattle.closure_sets.specs.Firsts.{AreNoted, AreFirsts};
 ghost use Rattle.closure_sets.specs.Found.{sets_of};
 ghost use Rattle.closure_sets.specs.Full.{EachRow, IsExpansion};
@@ -31,6 +31,27 @@ pub fn full_rows(alloc: Global, c: &Closure, a: u8, b: u8, seed: &Row) -> Result
     Ok(found.into_rows())
 }
 
+/// Of the fully expanded rows those in which all E untils that are put off go on along one side: those of side a, and then those of side b
+/// that are none of side a. They need not cover what states make true, but are few: many untils that are put off at once give two rows, where
+/// each of them doubles the rows of the expansion.
+pub fn one_sided_rows(
+    alloc: Global,
+    c: &Closure,
+    a: u8,
+    b: u8,
+    seed: &Row,
+) -> Result<Vec<Row>, Memory>
+    ensures rows { IfOk result (λ rows. AreFirsts (one_sided c.now (a, b) (set_of seed.now.words)) (sets_of rows.items)) }
+    ensures full { IfOk result (λ rows. EachRow (IsExpansion c.now (a, b) (set_of seed.now.words)) (sets_of rows.items)) }
+{
+    let marks_a = Marks::of(alloc, c, a, b)?.along(Side::A);
+    let mut found = Found::new(alloc);
+    expand(c, &marks_a, &mut found, *seed, Row::empty(), c.count())?;
+    let marks_b = marks_a.along(Side::B);
+    expand(c, &marks_b, &mut found, *seed, Row::empty(), c.count())?;
+    Ok(found.into_rows())
+}
+
 /// Finds the rows of an expansion in which at most so many members are still to be treated.
 #[cycle(treating)]
 fn expand(
@@ -42,7 +63,7 @@ fn expand(
     left: u32,
 ) -> Result<(), Memory>
     requires marks { AreMarks c.now (marks.now.a, marks.now.b) marks.now.values.items (set_of marks.now.wrong.words) }
-    ensures { OnOk result (AreNoted (sets_of found.old) (expand c.now (is_plain c.now (marks.now.a, marks.now.b)) (clashes c.now (marks.now.a, marks.now.b)) left (set_of row.words) (set_of treated.words)) (sets_of found.new)) }
+    ensures { OnOk result (AreNoted (sets_of found.old) (expand c.now marks.now.only (is_plain c.now (marks.now.a, marks.now.b)) (clashes c.now (marks.now.a, marks.now.b)) left (set_of row.words) (set_of treated.words)) (sets_of found.new)) }
 {
     if marks.clashes(c, &row) {
         return Ok(());
@@ -68,7 +89,7 @@ fn expand_each(
     left: u32,
 ) -> Result<(), Memory>
     requires marks { AreMarks c.now (marks.now.a, marks.now.b) marks.now.values.items (set_of marks.now.wrong.words) }
-    ensures { OnOk result (AreNoted (sets_of found.old) (treat_rows c.now (is_plain c.now (marks.now.a, marks.now.b)) (clashes c.now (marks.now.a, marks.now.b)) left (set_of treated.words) (ways_rows ways)) (sets_of found.new)) }
+    ensures { OnOk result (AreNoted (sets_of found.old) (treat_rows c.now marks.now.only (is_plain c.now (marks.now.a, marks.now.b)) (clashes c.now (marks.now.a, marks.now.b)) left (set_of treated.words) (ways_rows ways)) (sets_of found.new)) }
 {
     expand(c, marks, found, ways.first, treated, left)?;
     expand_way(c, marks, found, ways.second, treated, left)?;
@@ -86,7 +107,7 @@ fn expand_way(
     left: u32,
 ) -> Result<(), Memory>
     requires marks { AreMarks c.now (marks.now.a, marks.now.b) marks.now.values.items (set_of marks.now.wrong.words) }
-    ensures { OnOk result (AreNoted (sets_of found.old) (treat_rows c.now (is_plain c.now (marks.now.a, marks.now.b)) (clashes c.now (marks.now.a, marks.now.b)) left (set_of treated.words) (with_row way [])) (sets_of found.new)) }
+    ensures { OnOk result (AreNoted (sets_of found.old) (treat_rows c.now marks.now.only (is_plain c.now (marks.now.a, marks.now.b)) (clashes c.now (marks.now.a, marks.now.b)) left (set_of treated.words) (with_row way [])) (sets_of found.new)) }
 {
     let Some(row) = way else {
         return Ok(());

@@ -10,6 +10,6 @@ mod row;
 mod ways;
 
 pub use closure::Closure;
-pub use expanding::full_rows;
-pub use laws::{expansion_covers, expansion_is_full};
+pub use expanding::{full_rows, one_sided_rows};
+pub use laws::{expansion_covers, expansion_is_full, one_sided_is_full};
 pub use row::Row;

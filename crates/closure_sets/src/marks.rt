@@ -1,4 +1,4 @@
-ghost use Rattle.std.specs.Prelude.{◌≡◌, ◌<◌, ◌≤◌, IfOk, length, not, cond};
+ghost use Rattle.std.specs.Prelude.{◌≡◌, ◌<◌, ◌≤◌, Some, None, IfOk, length, not, cond};
 ghost use Rattle.ctl_form.specs.Members.{IsBelow};
 ghost use Rattle.closure_sets.specs.ClosureParts.{count};
 ghost use Rattle.closure_sets.specs.Expansion.{clashes};
@@ -12,27 +12,40 @@ use ctl_form::Part;
 use pair_structure::{Memory, Side};
 use std::alloc::Global;
 
-/// What a label tells of a closure's members: the truth of the propositional ones, and which ones no row may have.
+/// What is noted for an expansion: the label, what it tells of a closure's members (the truth of the propositional ones, and which ones no row
+/// may have), and the side along which each E until that is put off goes on, if one is named.
 #[derive(Drop)]
 pub(crate) struct Marks {
     a: u8,
     b: u8,
+    pub(crate) only: Option<Side>,
     values: Vec<Option<bool>>,
     wrong: Row,
 }
 
 impl Marks {
     pub(crate) fn of(alloc: Global, c: &Closure, a: u8, b: u8) -> Result<Marks, Memory>
-        ensures { IfOk result (λ marks. (marks.a ≡ a) × (marks.b ≡ b) × AreMarks c.now (a, b) marks.values.items (set_of marks.wrong.words)) }
+        ensures { IfOk result (λ marks. (marks.a ≡ a) × (marks.b ≡ b) × (marks.only ≡ None) × AreMarks c.now (a, b) marks.values.items (set_of marks.wrong.words)) }
     {
         let values = values_of(alloc, c, a, b)?;
         let wrong = wrong_row(c, a, b);
         Ok(Marks {
             a,
             b,
+            only: None,
             values,
             wrong,
         })
+    }
+
+    /// The same for the expansion in which all go on along this side.
+    pub(crate) fn along(self, side: Side) -> Marks
+        ensures { result ≡ record { a = self.a; b = self.b; only = Some side; values = self.values; wrong = self.wrong } }
+    {
+        Marks {
+            only: Some(side),
+            ..self
+        }
     }
 
     /// Whether the member is propositional, and true by the label.

@@ -35,7 +35,7 @@ struct UntilMember {
 pub(crate) fn ways_of(c: &Closure, marks: &Marks, row: &Row, member: u32) -> Ways
     requires marks { AreMarks c.now (marks.now.a, marks.now.b) marks.now.values.items (set_of marks.now.wrong.words) }
     requires member { member < count c.now }
-    ensures { ways_rows result ≡ ways c.now (is_plain c.now (marks.now.a, marks.now.b)) (set_of row.now.words) member (part_of c.now member) }
+    ensures { ways_rows result ≡ ways c.now marks.now.only (is_plain c.now (marks.now.a, marks.now.b)) (set_of row.now.words) member (part_of c.now member) }
 {
     c.tell_members();
     match c.part(member) {
@@ -73,7 +73,7 @@ fn either_ways(c: &Closure, marks: &Marks, row: &Row, f: u32, g: u32) -> Ways
     requires f { f < count c.now }
     requires g { g < count c.now }
     requires few { count c.now ≤ MAX_MEMBERS }
-    ensures { ways_rows result ≡ ways c.now (is_plain c.now (marks.now.a, marks.now.b)) (set_of row.now.words) 0 (Either f g) }
+    ensures { ways_rows result ≡ ways c.now marks.now.only (is_plain c.now (marks.now.a, marks.now.b)) (set_of row.now.words) 0 (Either f g) }
 {
     if row.has(f) {
         return one(*row);
@@ -98,7 +98,7 @@ fn until_ways(c: &Closure, marks: &Marks, row: &Row, until: &UntilMember) -> Way
     requires member { until.now.member < count c.now }
     requires after_a { after c.now A until.now.member < count c.now }
     requires after_b { after c.now B until.now.member < count c.now }
-    ensures { ways_rows result ≡ ways c.now (is_plain c.now (marks.now.a, marks.now.b)) (set_of row.now.words) until.now.member (Until until.now.all false until.now.f until.now.g) }
+    ensures { ways_rows result ≡ ways c.now marks.now.only (is_plain c.now (marks.now.a, marks.now.b)) (set_of row.now.words) until.now.member (Until until.now.all false until.now.f until.now.g) }
 {
     if row.has(until.g) {
         return one(*row);
@@ -113,9 +113,13 @@ fn until_ways(c: &Closure, marks: &Marks, row: &Row, until: &UntilMember) -> Way
     if until.all {
         return two(now, later.with(after_a).with(after_b));
     }
-    Ways {
-        first: now,
-        second: Some(later.with(after_a)),
-        third: Some(later.with(after_b)),
+    match marks.only {
+        Some(Side::A) => two(now, later.with(after_a)),
+        Some(Side::B) => two(now, later.with(after_b)),
+        None => Ways {
+            first: now,
+            second: Some(later.with(after_a)),
+            third: Some(later.with(after_b)),
+        },
     }
 }

@@ -12,7 +12,7 @@ use Rattle.closure_sets.specs.Label.{part_of}
 use Rattle.closure_sets.proofs.Closures.{until_lt}
 use Rattle.tableau_graph.specs.Graph.{Graph, graph_of, IsGraph, ChildrenCover, RootCovers}
 use Rattle.tableau_graph.specs.Rules.{IsTableau}
-use Rattle.tableau_graph.specs.TableauParts.{TableauParts}
+use Rattle.tableau_graph.specs.TableauParts.{IsWhole, TableauParts}
 use Rattle.deletion_rules.specs.Deletion.{Falls, IsKept, IsStrong, LivesOr, AreLeastRanks}
 use Rattle.deletion_rules.specs.Marks.{lists_of, lives_of, living_count, mark_at, marks_at, rank_of, ranks_of, AreLeft, AreMarksOf, AreTable, IsLeft}
 use Rattle.deletion_rules.specs.Met.{MetLive}
@@ -133,7 +133,7 @@ pub met_dead : (t : TableauParts) → IsTableau t → IsGraph t.closure (graph_o
 met_dead t k ok cover lives live dead m over holds = dead_is_unsatisfiable t.a t.b t.closure k.rules.closure (graph_of t) ok 0 cover (lives_of lives) live dead m over holds
 
 -- a round of the loop, as its calls tell of it; views: the lists as slices
-module _ (t : TableauParts) (k : IsTableau t) (lives left first second : List Bool) (table view : List (Vec (Option ℕ))) (long : length lives ≡ length t.ands) (live : MetLive t.a t.b t.closure (graph_of t) (lives_of lives)) (seen_first : first ≡ lives) (seen_second : second ≡ lives) (seen_table : view ≡ table) (h : AreTable t.closure (graph_of t) (lives_of first) (count t.closure) (lists_of table)) (l : AreLeft t.closure (graph_of t) (lives_of second) (lists_of view) (length t.ands) left) where
+module _ (t : TableauParts) (k : IsTableau t) (lives left first second : List Bool) (table view : List (Vec (Option ℕ))) (long : length lives ≡ length t.ands) (live : IsWhole t → MetLive t.a t.b t.closure (graph_of t) (lives_of lives)) (seen_first : first ≡ lives) (seen_second : second ≡ lives) (seen_table : view ≡ table) (h : AreTable t.closure (graph_of t) (lives_of first) (count t.closure) (lists_of table)) (l : AreLeft t.closure (graph_of t) (lives_of second) (lists_of view) (length t.ands) left) where
   marks : AreTable t.closure (graph_of t) (lives_of lives) (count t.closure) (lists_of table)
   marks = subst (λ (v : List Bool). AreTable t.closure (graph_of t) (lives_of v) (count t.closure) (lists_of table)) seen_first h
 
@@ -143,8 +143,8 @@ module _ (t : TableauParts) (k : IsTableau t) (lives left first second : List Bo
   pub round_long : length left ≡ length t.ands
   round_long = rest.long
 
-  pub round_met : IsGraph t.closure (graph_of t) → ChildrenCover t.a t.b t.closure (graph_of t) → MetLive t.a t.b t.closure (graph_of t) (lives_of left)
-  round_met ok cover = met_left t k ok cover lives left (lists_of table) live rest
+  pub round_met : IsGraph t.closure (graph_of t) → (IsWhole t → ChildrenCover t.a t.b t.closure (graph_of t)) → IsWhole t → MetLive t.a t.b t.closure (graph_of t) (lives_of left)
+  round_met ok cover whole = met_left t k ok (cover whole) lives left (lists_of table) (live whole) rest
 
   module _ (a b : ℕ) (v w : List Bool) (e : a ≡ living_count v) (p : v ≡ left) (f : b ≡ living_count w) (q : w ≡ lives) where
     pub round_less : (a ≡ b → ⊥) → living_count left < living_count lives

@@ -5,7 +5,7 @@ use Rattle.std.proofs.lemmas.List.Elements.{Contains-push_cases}
 use Rattle.std.proofs.lemmas.List.Sums.{sum_by-set}
 use Rattle.tableau_graph.specs.Graph.{graph_of, IsGraph, ChildrenCover}
 use Rattle.tableau_graph.specs.Rules.{IsTableau}
-use Rattle.tableau_graph.specs.TableauParts.{TableauParts, edges_at}
+use Rattle.tableau_graph.specs.TableauParts.{IsWhole, TableauParts, edges_at}
 use Rattle.deletion_rules.specs.inside.Cursors.{flag_of, AreCursors, EachIs}
 use Rattle.deletion_rules.specs.Deletion.{IsSupported, LivesOr}
 use Rattle.deletion_rules.specs.Marks.{lives_of}
@@ -25,10 +25,10 @@ pub lost_still : (t : TableauParts) (lives left : List Bool) (o : ℕ) → ((n :
 lost_still t lives left o within lost h = lost (h.0, h.1, within h.0 h.2, h.3)
 
 pub thinned_none : (t : TableauParts) (lives : List Bool) → IsThinned t lives lives
-thinned_none t lives = record { long = refl; within = λ n e. e; met = λ m. m }
+thinned_none t lives = record { long = refl; within = λ n e. e; met = λ whole m. m }
 
 pub thinned_then : (t : TableauParts) (a b d : List Bool) → IsThinned t a b → IsThinned t b d → IsThinned t a d
-thinned_then t a b d h k = record { long = k.long ∙ h.long; within = λ n e. h.within n (k.within n e); met = λ m. k.met (h.met m) }
+thinned_then t a b d h k = record { long = k.long ∙ h.long; within = λ n e. h.within n (k.within n e); met = λ whole m. k.met whole (h.met whole m) }
 
 without_within : (lives : List Bool) (n m : ℕ) → n < length lives → lives_of (slice_set lives n false) m ≡ true → lives_of lives m ≡ true
 without_within lives n m lt e = elim (ℕ_discrete m n) [ yes q ↦ absurd (no_yes (sym (flag_here lives n false lt) ∙ subst (λ x. lives_of (slice_set lives n false) x ≡ true) q e)) | no d ↦ sym (flag_other lives n m false d) ∙ e ]
@@ -37,14 +37,14 @@ without_within lives n m lt e = elim (ℕ_discrete m n) [ yes q ↦ absurd (no_y
 unsupported : (t : TableauParts) (lives : List Bool) (arrow : Arrow) → IsLosing t lives arrow → IsSupported t.closure (graph_of t) (lives_of lives) arrow.node → ⊥
 unsupported t lives arrow h s = let a = h.1 in h.2 (subst (LivesOr (graph_of t) (lives_of lives)) a.1 (s.successors arrow.member a.0.0 a.0.1 a.0.2))
 
-pub thinned_without : (t : TableauParts) → IsTableau t → IsGraph t.closure (graph_of t) → ChildrenCover t.a t.b t.closure (graph_of t) → (lives : List Bool) (arrow : Arrow) → arrow.node < length lives → IsLosing t lives arrow → IsThinned t lives (slice_set lives arrow.node false)
+pub thinned_without : (t : TableauParts) → IsTableau t → IsGraph t.closure (graph_of t) → (IsWhole t → ChildrenCover t.a t.b t.closure (graph_of t)) → (lives : List Bool) (arrow : Arrow) → arrow.node < length lives → IsLosing t lives arrow → IsThinned t lives (slice_set lives arrow.node false)
 thinned_without t k ok cover lives arrow lt losing = record { long = length-set lives arrow.node false; within = λ m e. without_within lives arrow.node m lt e; met = met }
   where
     gone : (m : ℕ) → m < length t.ands → lives_of (slice_set lives arrow.node false) m ≡ false → (lives_of lives m ≡ false) ⊎ (IsSupported t.closure (graph_of t) (lives_of lives) m → ⊥)
     gone m small e = elim (ℕ_discrete m arrow.node) [ yes q ↦ inr (λ s. unsupported t lives arrow losing (subst (IsSupported t.closure (graph_of t) (lives_of lives)) q s)) | no d ↦ inl (sym (flag_other lives arrow.node m false d) ∙ e) ]
 
-    met : MetLive t.a t.b t.closure (graph_of t) (lives_of lives) → MetLive t.a t.b t.closure (graph_of t) (lives_of (slice_set lives arrow.node false))
-    met live = removal_keeps_met t.a t.b t.closure k.rules.closure (graph_of t) ok cover (lives_of lives) (lives_of (slice_set lives arrow.node false)) live gone
+    met : IsWhole t → MetLive t.a t.b t.closure (graph_of t) (lives_of lives) → MetLive t.a t.b t.closure (graph_of t) (lives_of (slice_set lives arrow.node false))
+    met whole live = removal_keeps_met t.a t.b t.closure k.rules.closure (graph_of t) ok (cover whole) (lives_of lives) (lives_of (slice_set lives arrow.node false)) live gone
 
 -- cursors that have passed deleted children
 false_still : (lives left : List Bool) (x : ℕ) → ((n : ℕ) → lives_of left n ≡ true → lives_of lives n ≡ true) → flag_of lives x ≡ false → flag_of left x ≡ false

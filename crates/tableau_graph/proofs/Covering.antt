@@ -14,7 +14,8 @@ use Rattle.closure_sets.specs.Full.{EachRow, Among}
 use Rattle.closure_sets.specs.Row.{Members}
 use Rattle.tableau_graph.specs.Graph.{Graph, graph_of, HasChild, HasMetChild, TableauCovers, TableauRootCovers}
 use Rattle.tableau_graph.specs.Rules.{Follows, LeadsTo}
-use Rattle.tableau_graph.specs.TableauParts.{or_at, seed_of, origin_of}
+use Rattle.tableau_graph.specs.TableauParts.{offered, or_at, seed_of, origin_of}
+use Rattle.tableau_graph.specs.declared.breadth.Breadth.{Breadth}
 use Rattle.tableau_graph.proofs.Expanded.{tableau_has_children}
 
 both_of : (X Y : Members → Type 0) (rows : List Members) → Among X rows → EachRow Y rows → (row : Members) × X row × Y row
@@ -38,18 +39,18 @@ follows_move a b m over side s t from at step =
     subst (λ l. Follows a b side l (label_at m.states t)) same (lawful.arc, lawful.stays)
 
 pub tableau_covers : ExpansionCovers → TableauCovers
-tableau_covers covers t k m over n i h side is s s' at step holds chosen lawful =
+tableau_covers covers t k whole m over n i h side is s s' at step holds chosen lawful =
     let lt : s' < length m.states = over.goes_on.within side s s' step in
     let label : ℕ × ℕ = label_at m.states s' in
     let seed : Members = seed_of (or_at t.ors ((graph_of t).next_or n i)) in
     let follows : Follows t.a t.b side ((graph_of t).label n) label = follows_move t.a t.b m over side s s' ((graph_of t).label n) at step in
-    met_child t.closure (graph_of t) m ((graph_of t).next_or n i) s' label chosen (expansion t.closure label seed) (slice_get-get_or m.states s' (0, 0) lt) (covers t.closure label seed k.rules.closure m over.goes_on s' lt refl holds chosen lawful) (tableau_has_children t k n i h side is label follows)
+    met_child t.closure (graph_of t) m ((graph_of t).next_or n i) s' label chosen (expansion t.closure label seed) (slice_get-get_or m.states s' (0, 0) lt) (covers t.closure label seed k.rules.closure m over.goes_on s' lt refl holds chosen lawful) (tableau_has_children t k whole n i h side is label follows)
 
 root_reached : (a b : RoleParts) (found : Option Side) (origin to : ℕ × ℕ) → found ≡ None → to ≡ origin → LeadsTo a b found origin to
 root_reached a b found origin to e same = subst (λ o. LeadsTo a b o origin to) (sym e) same
 
 pub tableau_root_covers : ExpansionCovers → TableauRootCovers
-tableau_root_covers covers t k m over holds chosen lawful =
+tableau_root_covers covers t k whole m over holds chosen lawful =
     let start : ℕ × ℕ = (first_start t.a, first_start t.b) in
     let first : slice_get m.states 0 ≡ Some start = first_state t.a t.b m.states over.starts k.rules.role_a.begins k.rules.role_b.begins in
     let label : label_at m.states 0 ≡ start = get_or_from_slice_get m.states 0 start (0, 0) first in
@@ -57,4 +58,4 @@ tableau_root_covers covers t k m over holds chosen lawful =
     let some : 0 < length t.ors = k.rules.some in
     let same : length t.children ≡ length t.ors = k.all_ors in
     let leads : LeadsTo t.a t.b (or_at t.ors 0).side (origin_of (or_at t.ors 0)) start = root_reached t.a t.b (or_at t.ors 0).side (origin_of (or_at t.ors 0)) start k.rules.root.sided (sym k.rules.root.origin) in
-    met_child t.closure (graph_of t) m 0 0 start chosen (expansion t.closure start seed) first (covers t.closure start seed k.rules.closure m over.goes_on 0 over.some label holds chosen lawful) ((k.rules.children 0 (omega (arith, some, same))).all start leads)
+    met_child t.closure (graph_of t) m 0 0 start chosen (expansion t.closure start seed) first (covers t.closure start seed k.rules.closure m over.goes_on 0 over.some label holds chosen lawful) (subst (λ (b : Breadth). EachRow (HasChild (graph_of t) 0 start) (offered b t.closure start seed)) whole ((k.rules.children 0 (omega (arith, some, same))).all start leads))

@@ -8,7 +8,6 @@ use Rattle.std.proofs.Math.Seq.{get_or-append_seam}
 use Rattle.pair_structure.specs.declared.side.Side.{Side}
 use Rattle.ctl_form.specs.declared.part.Part.TheVariants.{Next}
 use Rattle.closure_sets.specs.ClosureParts.{count}
-use Rattle.closure_sets.specs.Expansion.{expansion}
 use Rattle.closure_sets.specs.Full.{Has, EachRow}
 use Rattle.closure_sets.specs.Label.{part_of}
 use Rattle.closure_sets.specs.Row.{Members}
@@ -16,7 +15,7 @@ use Rattle.closure_sets.proofs.Closures.{member_of}
 use Rattle.tableau_graph.specs.Growing.{AreNodesAt, AreNextNodes, HasAnd}
 use Rattle.tableau_graph.specs.NodeTable.{AreNumbers}
 use Rattle.tableau_graph.specs.Rules.{LeadsTo, IsChild, HasNode, AreChildren, IsSuccessor, AreSuccessors, IsRoot, IsReachedBy, IsReachedOr, IsReachedAnd, AreApart, FollowsRules}
-use Rattle.tableau_graph.specs.TableauParts.{TableauParts, and_at, or_at, pair_of, row_of, origin_of, seed_of, edges_at, somes_below, next_of}
+use Rattle.tableau_graph.specs.TableauParts.{TableauParts, offered, and_at, or_at, pair_of, row_of, origin_of, seed_of, edges_at, somes_below, next_of}
 use Rattle.tableau_graph.specs.declared.nodes.AndNode.{AndNode}
 use Rattle.tableau_graph.specs.declared.nodes.OrNode.{OrNode}
 use Rattle.tableau_graph.proofs.Carried.{no_part}
@@ -26,7 +25,7 @@ use Rattle.tableau_graph.proofs.Places.{kept_before, at_contained}
 
 -- the same closure and roles with other nodes and edges
 abbrev pub with_nodes : TableauParts → List AndNode → List OrNode → List (List ℕ) → List (List ℕ) → TableauParts
-with_nodes t ands ors children successors = record { closure = t.closure; a = t.a; b = t.b; ands = ands; ors = ors; children = children; successors = successors }
+with_nodes t ands ors children successors = record { closure = t.closure; a = t.a; b = t.b; breadth = t.breadth; ands = ands; ors = ors; children = children; successors = successors }
 
 -- each element stays at its place
 abbrev pub Kept : {X : Type 0} → List X → List X → Type 0
@@ -60,8 +59,8 @@ children_kept t ands ors children successors kept node numbers are = record { wi
     each : (n : ℕ) → Contains numbers n → IsChild (with_nodes t ands ors children successors) node (and_at ands n)
     each n h = subst (IsChild (with_nodes t ands ors children successors) node) (sym (same n h)) (record { leads = (are.each n h).leads; row = (are.each n h).row })
 
-    all : (pair : ℕ × ℕ) → LeadsTo t.a t.b node.side (origin_of node) pair → EachRow (HasNode (with_nodes t ands ors children successors) numbers pair) (expansion t.closure pair (seed_of node))
-    all pair leads = each_map (HasNode t numbers pair) (HasNode (with_nodes t ands ors children successors) numbers pair) (expansion t.closure pair (seed_of node)) (λ row h. (h.0, h.1, ap pair_of (same h.0 h.1) ∙ h.2, ap row_of (same h.0 h.1) ∙ h.3)) (are.all pair leads)
+    all : (pair : ℕ × ℕ) → LeadsTo t.a t.b node.side (origin_of node) pair → EachRow (HasNode (with_nodes t ands ors children successors) numbers pair) (offered t.breadth t.closure pair (seed_of node))
+    all pair leads = each_map (HasNode t numbers pair) (HasNode (with_nodes t ands ors children successors) numbers pair) (offered t.breadth t.closure pair (seed_of node)) (λ row h. (h.0, h.1, ap pair_of (same h.0 h.1) ∙ h.2, ap row_of (same h.0 h.1) ∙ h.3)) (are.all pair leads)
 
 -- an AND node's successors stay its successors
 successors_kept : (t : TableauParts) (ands : List AndNode) (ors : List OrNode) (children successors : List (List ℕ)) → Kept t.ors ors → (node : AndNode) (numbers : List ℕ) → AreSuccessors t node numbers → AreSuccessors (with_nodes t ands ors children successors) node numbers
@@ -102,7 +101,7 @@ number_of_node before nodes after numbers are k x e =
     (Contains-get_or numbers k 0 lt', are.at k (slice_index_or numbers k 0) x e (slice_get-get_or numbers k 0 lt'))
 
 -- the numbers of the nodes at the pairs that an OR node leads to are its children
-children_numbered : (t : TableauParts) (ands : List AndNode) (children : List (List ℕ)) (node : OrNode) (pairs : List (ℕ × ℕ)) (nodes : List AndNode) (numbers : List ℕ) → ((pair : ℕ × ℕ) → Contains pairs pair ↔ LeadsTo t.a t.b node.side (origin_of node) pair) → AreNodesAt t.closure pairs (seed_of node) nodes → AreNumbers t.ands nodes ands numbers → AreChildren (with_nodes t ands t.ors children t.successors) node numbers
+children_numbered : (t : TableauParts) (ands : List AndNode) (children : List (List ℕ)) (node : OrNode) (pairs : List (ℕ × ℕ)) (nodes : List AndNode) (numbers : List ℕ) → ((pair : ℕ × ℕ) → Contains pairs pair ↔ LeadsTo t.a t.b node.side (origin_of node) pair) → AreNodesAt t.closure t.breadth pairs (seed_of node) nodes → AreNumbers t.ands nodes ands numbers → AreChildren (with_nodes t ands t.ors children t.successors) node numbers
 children_numbered t ands children node pairs nodes numbers leads are numbered = record { within = within; each = each; all = all }
   where
     found : (n : ℕ) → Contains numbers n → (x : AndNode) × Contains nodes x × (slice_get ands n ≡ Some x)
@@ -124,8 +123,8 @@ children_numbered t ands children node pairs nodes numbers leads are numbered = 
         let at : and_at ands (slice_index_or numbers place.0 0) ≡ h.0 = get_or_from_slice_get ands (slice_index_or numbers place.0 0) h.0 (and_at [] 0) n.1 in
         (slice_index_or numbers place.0 0, n.0, ap pair_of at ∙ h.2, ap row_of at ∙ h.3)
 
-    all : (pair : ℕ × ℕ) → LeadsTo t.a t.b node.side (origin_of node) pair → EachRow (HasNode (with_nodes t ands t.ors children t.successors) numbers pair) (expansion t.closure pair (seed_of node))
-    all pair to = each_map (HasAnd nodes pair) (HasNode (with_nodes t ands t.ors children t.successors) numbers pair) (expansion t.closure pair (seed_of node)) (numbered_row pair) (are.all pair ((leads pair).1 to))
+    all : (pair : ℕ × ℕ) → LeadsTo t.a t.b node.side (origin_of node) pair → EachRow (HasNode (with_nodes t ands t.ors children t.successors) numbers pair) (offered t.breadth t.closure pair (seed_of node))
+    all pair to = each_map (HasAnd nodes pair) (HasNode (with_nodes t ands t.ors children t.successors) numbers pair) (offered t.breadth t.closure pair (seed_of node)) (numbered_row pair) (are.all pair ((leads pair).1 to))
 
 -- the numbers of the OR nodes that an AND node leads to are its successors
 successors_numbered : (t : TableauParts) (ors : List OrNode) (successors : List (List ℕ)) (node : AndNode) (nodes : List OrNode) (numbers : List ℕ) → AreNextNodes t.closure node (count t.closure) nodes → AreNumbers t.ors nodes ors numbers → AreSuccessors (with_nodes t t.ands ors t.children successors) node numbers
@@ -147,7 +146,7 @@ last_edges lists numbers = get_or-append_seam lists numbers [] []
 
 -- the rules where an OR node is expanded
 pub or_expanded : (t : TableauParts) (ands : List AndNode) (pairs : List (ℕ × ℕ)) (nodes : List AndNode) (numbers : List ℕ) → FollowsRules t → length t.children < length t.ors
-    → ((pair : ℕ × ℕ) → Contains pairs pair ↔ LeadsTo t.a t.b (or_at t.ors (length t.children)).side (origin_of (or_at t.ors (length t.children))) pair) → AreNodesAt t.closure pairs (seed_of (or_at t.ors (length t.children))) nodes
+    → ((pair : ℕ × ℕ) → Contains pairs pair ↔ LeadsTo t.a t.b (or_at t.ors (length t.children)).side (origin_of (or_at t.ors (length t.children))) pair) → AreNodesAt t.closure t.breadth pairs (seed_of (or_at t.ors (length t.children))) nodes
     → AreNumbers t.ands nodes ands numbers → AreApart ands → FollowsRules (with_nodes t ands t.ors (t.children ++ numbers ∷ []) t.successors)
 or_expanded t ands pairs nodes numbers rules unexpanded leads are numbered apart = record {
   closure = rules.closure;

@@ -3,7 +3,6 @@ use Rattle.std.proofs.Common.{ℕ, zero, suc, ◌≡◌, ◌<◌, ◌+◌, ◌++
 use Rattle.std.proofs.lemmas.List.{take_more}
 use Rattle.std.proofs.lemmas.List.Elements.{Contains-push, Contains-push_cases, Contains-append_left, Contains-append_right, Contains-append_cases}
 use Rattle.closure_sets.specs.ClosureParts.{ClosureParts}
-use Rattle.closure_sets.specs.Expansion.{expansion}
 use Rattle.closure_sets.specs.Firsts.{IsOneOf, AreFirsts}
 use Rattle.closure_sets.specs.Found.{sets_of}
 use Rattle.closure_sets.specs.Full.{EachRow}
@@ -11,7 +10,8 @@ use Rattle.closure_sets.specs.Row.{Members}
 use Rattle.closure_sets.specs.declared.row.Row.{Row}
 use Rattle.closure_sets.proofs.NotedLaws.{each_of_noted, among_noted}
 use Rattle.tableau_graph.specs.Growing.{AreNodesAt, HasAnd, and_with}
-use Rattle.tableau_graph.specs.TableauParts.{pair_of, row_of}
+use Rattle.tableau_graph.specs.TableauParts.{offered, pair_of, row_of}
+use Rattle.tableau_graph.specs.declared.breadth.Breadth.{Breadth}
 use Rattle.tableau_graph.specs.declared.nodes.AndNode.{AndNode}
 
 pub each_map : (X Y : Members → Type 0) (rows : List Members) → ((row : Members) → X row → Y row) → EachRow X rows → EachRow Y rows
@@ -49,19 +49,19 @@ of_row pair (row ∷ rows) set (inl e) = (and_with pair row, at_head (and_with p
 of_row pair (row ∷ rows) set (inr h) = let k = of_row pair rows set h in (k.0, in_tail (and_with pair row) k.0 (map (and_with pair) rows) k.1, k.2, k.3)
 
 -- the nodes at some pairs, and those at one more
-nodes_push : (c : ClosureParts) (pairs : List (ℕ × ℕ)) (pair : ℕ × ℕ) (seed : Members) (nodes : List AndNode) (rows : List Row) → AreNodesAt c pairs seed nodes → AreFirsts (expansion c pair seed) (sets_of rows) → AreNodesAt c (pairs ++ pair ∷ []) seed (nodes ++ map (and_with pair) rows)
-nodes_push c pairs pair seed nodes rows are firsts = record { each = each; all = all }
+nodes_push : (c : ClosureParts) (breadth : Breadth) (pairs : List (ℕ × ℕ)) (pair : ℕ × ℕ) (seed : Members) (nodes : List AndNode) (rows : List Row) → AreNodesAt c breadth pairs seed nodes → AreFirsts (offered breadth c pair seed) (sets_of rows) → AreNodesAt c breadth (pairs ++ pair ∷ []) seed (nodes ++ map (and_with pair) rows)
+nodes_push c breadth pairs pair seed nodes rows are firsts = record { each = each; all = all }
   where
     more : List AndNode
     more = map (and_with pair) rows
 
-    each : (node : AndNode) → Contains (nodes ++ more) node → Contains (pairs ++ pair ∷ []) (pair_of node) × IsOneOf (expansion c (pair_of node) seed) (row_of node)
+    each : (node : AndNode) → Contains (nodes ++ more) node → Contains (pairs ++ pair ∷ []) (pair_of node) × IsOneOf (offered breadth c (pair_of node) seed) (row_of node)
     each node h = elim (Contains-append_cases nodes more node h) [ inl old ↦ (let k = are.each node old in (Contains-append_left pairs (pair ∷ []) (pair_of node) k.0, k.1)) | inr new ↦ newer new ]
       where
-        newer : Contains more node → Contains (pairs ++ pair ∷ []) (pair_of node) × IsOneOf (expansion c (pair_of node) seed) (row_of node)
+        newer : Contains more node → Contains (pairs ++ pair ∷ []) (pair_of node) × IsOneOf (offered breadth c (pair_of node) seed) (row_of node)
         newer new =
-            let k = from_rows pair rows node (IsOneOf (expansion c pair seed)) (noted_stand (expansion c pair seed) (sets_of rows) firsts) new in
-            (subst (Contains (pairs ++ pair ∷ [])) (sym k.0) (Contains-push pairs pair), subst (λ (p : ℕ × ℕ). IsOneOf (expansion c p seed) (row_of node)) (sym k.0) k.1)
+            let k = from_rows pair rows node (IsOneOf (offered breadth c pair seed)) (noted_stand (offered breadth c pair seed) (sets_of rows) firsts) new in
+            (subst (Contains (pairs ++ pair ∷ [])) (sym k.0) (Contains-push pairs pair), subst (λ (p : ℕ × ℕ). IsOneOf (offered breadth c p seed) (row_of node)) (sym k.0) k.1)
 
     left : (p : ℕ × ℕ) (row : Members) → HasAnd nodes p row → HasAnd (nodes ++ more) p row
     left p row h = (h.0, Contains-append_left nodes more h.0 h.1, h.2, h.3)
@@ -69,14 +69,14 @@ nodes_push c pairs pair seed nodes rows are firsts = record { each = each; all =
     right : (p : ℕ × ℕ) (row : Members) → HasAnd more p row → HasAnd (nodes ++ more) p row
     right p row h = (h.0, Contains-append_right nodes more h.0 h.1, h.2, h.3)
 
-    here : EachRow (HasAnd (nodes ++ more) pair) (expansion c pair seed)
-    here = each_map (IsOneOf (sets_of rows)) (HasAnd (nodes ++ more) pair) (expansion c pair seed) (λ row h. right pair row (of_row pair rows row h)) (stand_noted (expansion c pair seed) (sets_of rows) firsts)
+    here : EachRow (HasAnd (nodes ++ more) pair) (offered breadth c pair seed)
+    here = each_map (IsOneOf (sets_of rows)) (HasAnd (nodes ++ more) pair) (offered breadth c pair seed) (λ row h. right pair row (of_row pair rows row h)) (stand_noted (offered breadth c pair seed) (sets_of rows) firsts)
 
-    all : (p : ℕ × ℕ) → Contains (pairs ++ pair ∷ []) p → EachRow (HasAnd (nodes ++ more) p) (expansion c p seed)
-    all p h = elim (Contains-push_cases pairs pair p h) [ inl old ↦ each_map (HasAnd nodes p) (HasAnd (nodes ++ more) p) (expansion c p seed) (left p) (are.all p old) | inr last ↦ subst (λ (q : ℕ × ℕ). EachRow (HasAnd (nodes ++ more) q) (expansion c q seed)) last here ]
+    all : (p : ℕ × ℕ) → Contains (pairs ++ pair ∷ []) p → EachRow (HasAnd (nodes ++ more) p) (offered breadth c p seed)
+    all p h = elim (Contains-push_cases pairs pair p h) [ inl old ↦ each_map (HasAnd nodes p) (HasAnd (nodes ++ more) p) (offered breadth c p seed) (left p) (are.all p old) | inr last ↦ subst (λ (q : ℕ × ℕ). EachRow (HasAnd (nodes ++ more) q) (offered breadth c q seed)) last here ]
 
 -- the nodes at the first pairs, and those at one more
-pub nodes_step : (c : ClosureParts) (pairs : List (ℕ × ℕ)) (seed : Members) (nodes nodes' : List AndNode) (rows : List Row) (i : ℕ) (d : ℕ × ℕ) → i < length pairs → AreNodesAt c (take i pairs) seed nodes → AreFirsts (expansion c (slice_index_or pairs i d) seed) (sets_of rows) → nodes' ≡ nodes ++ map (and_with (slice_index_or pairs i d)) rows → AreNodesAt c (take (i + 1) pairs) seed nodes'
-nodes_step c pairs seed nodes nodes' rows i d lt are firsts e =
+pub nodes_step : (c : ClosureParts) (breadth : Breadth) (pairs : List (ℕ × ℕ)) (seed : Members) (nodes nodes' : List AndNode) (rows : List Row) (i : ℕ) (d : ℕ × ℕ) → i < length pairs → AreNodesAt c breadth (take i pairs) seed nodes → AreFirsts (offered breadth c (slice_index_or pairs i d) seed) (sets_of rows) → nodes' ≡ nodes ++ map (and_with (slice_index_or pairs i d)) rows → AreNodesAt c breadth (take (i + 1) pairs) seed nodes'
+nodes_step c breadth pairs seed nodes nodes' rows i d lt are firsts e =
     let pair : ℕ × ℕ = slice_index_or pairs i d in
-    subst (λ (l : List (ℕ × ℕ)). AreNodesAt c l seed nodes') (sym (take_more pairs i d lt)) (subst (AreNodesAt c (take i pairs ++ pair ∷ []) seed) (sym e) (nodes_push c (take i pairs) pair seed nodes rows are firsts))
+    subst (λ (l : List (ℕ × ℕ)). AreNodesAt c breadth l seed nodes') (sym (take_more pairs i d lt)) (subst (AreNodesAt c breadth (take i pairs ++ pair ∷ []) seed) (sym e) (nodes_push c breadth (take i pairs) pair seed nodes rows are firsts))

@@ -11,7 +11,7 @@ use Rattle.closure_sets.specs.Full.{Has, IsFull, EachRow}
 use Rattle.closure_sets.specs.Label.{part_of, wrong_of}
 use Rattle.closure_sets.specs.Row.{Members}
 use Rattle.tableau_graph.specs.Rules.{Follows, IsCarried, IsTableau}
-use Rattle.tableau_graph.specs.TableauParts.{TableauParts, and_at, or_at, pair_of, row_of, seed_of, edges_at, next_of}
+use Rattle.tableau_graph.specs.TableauParts.{TableauParts, IsWhole, and_at, or_at, pair_of, row_of, seed_of, edges_at, next_of}
 
 -- ands: how many AND nodes there are; next_or n i: the OR successor of the AND node n for its member i, some EXs h
 pub record Graph : Type 0 where
@@ -86,10 +86,10 @@ abbrev pub TableauStarts : Type 0
 TableauStarts = (t : TableauParts) → IsTableau t → StartsAtRoot t.a t.b (graph_of t) 0
 
 abbrev pub TableauHasChildren : Type 0
-TableauHasChildren = (t : TableauParts) → IsTableau t → HasChildren t.a t.b t.closure (graph_of t)
+TableauHasChildren = (t : TableauParts) → IsTableau t → IsWhole t → HasChildren t.a t.b t.closure (graph_of t)
 
 abbrev pub TableauCovers : Type 0
-TableauCovers = (t : TableauParts) → IsTableau t → ChildrenCover t.a t.b t.closure (graph_of t)
+TableauCovers = (t : TableauParts) → IsTableau t → IsWhole t → ChildrenCover t.a t.b t.closure (graph_of t)
 
 abbrev pub TableauRootCovers : Type 0
-TableauRootCovers = (t : TableauParts) → IsTableau t → RootCovers t.a t.b t.closure (graph_of t) 0
+TableauRootCovers = (t : TableauParts) → IsTableau t → IsWhole t → RootCovers t.a t.b t.closure (graph_of t) 0

@@ -8,14 +8,14 @@ use Rattle.pair_structure.specs.declared.side.Side.{Side}
 use Rattle.ctl_form.specs.declared.part.Part.{Part}
 use Rattle.ctl_form.specs.declared.part.Part.TheVariants.{Next}
 use Rattle.closure_sets.specs.ClosureParts.{ClosureParts}
-use Rattle.closure_sets.specs.Expansion.{expansion}
 use Rattle.closure_sets.specs.Firsts.{IsOneOf}
 use Rattle.closure_sets.specs.Full.{Has, EachRow}
 use Rattle.closure_sets.specs.Label.{part_of}
 use Rattle.closure_sets.specs.Row.{Members}
 use Rattle.closure_sets.specs.declared.row.Row.{Row}
 use Rattle.tableau_graph.specs.Rules.{IsSuccessor}
-use Rattle.tableau_graph.specs.TableauParts.{TableauParts, pair_of, row_of, is_some_next, somes_below}
+use Rattle.tableau_graph.specs.TableauParts.{TableauParts, offered, pair_of, row_of, is_some_next, somes_below}
+use Rattle.tableau_graph.specs.declared.breadth.Breadth.{Breadth}
 use Rattle.tableau_graph.specs.declared.growing.Growing.{Growing}
 use Rattle.tableau_graph.specs.declared.nodes.AndNode.{AndNode}
 use Rattle.tableau_graph.specs.declared.nodes.OrNode.{OrNode}
@@ -35,10 +35,10 @@ and_with pair row = record { a = pair.0; b = pair.1; row = row }
 abbrev pub HasAnd : List AndNode → ℕ × ℕ → Members → Type 0
 HasAnd nodes pair row = (node : AndNode) × Contains nodes node × (pair_of node ≡ pair) × (row_of node ≡ row)
 
--- the nodes of a seed at these pairs: one for each row of an expansion
-pub record AreNodesAt (c : ClosureParts) (pairs : List (ℕ × ℕ)) (seed : Members) (nodes : List AndNode) : Type 0 where
-  pub each : (node : AndNode) → Contains nodes node → Contains pairs (pair_of node) × IsOneOf (expansion c (pair_of node) seed) (row_of node)
-  pub all : (pair : ℕ × ℕ) → Contains pairs pair → EachRow (HasAnd nodes pair) (expansion c pair seed)
+-- the nodes of a seed at these pairs: one for each row that is offered
+pub record AreNodesAt (c : ClosureParts) (breadth : Breadth) (pairs : List (ℕ × ℕ)) (seed : Members) (nodes : List AndNode) : Type 0 where
+  pub each : (node : AndNode) → Contains nodes node → Contains pairs (pair_of node) × IsOneOf (offered breadth c (pair_of node) seed) (row_of node)
+  pub all : (pair : ℕ × ℕ) → Contains pairs pair → EachRow (HasAnd nodes pair) (offered breadth c pair seed)
 
 -- the set has each x for an AXs x that is a member below n of the row, and nothing else
 abbrev pub IsCarriedBelow : ClosureParts → Members → Side → ℕ → Members → Type 0
@@ -63,7 +63,7 @@ lists_of vectors = map (λ (v : Vec ℕ). v.items) vectors
 
 -- the tableau so far
 abbrev pub parts_of : ClosureParts → RoleParts → RoleParts → Growing → TableauParts
-parts_of c a b g = record { closure = c; a = a; b = b; ands = g.ands; ors = g.ors; children = lists_of g.children.items; successors = lists_of g.successors.items }
+parts_of c a b g = record { closure = c; a = a; b = b; breadth = g.breadth; ands = g.ands; ors = g.ors; children = lists_of g.children.items; successors = lists_of g.successors.items }
 
 -- more than what can still be expanded
 abbrev pub room_of : Growing → ℕ

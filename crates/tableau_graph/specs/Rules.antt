@@ -1,16 +1,15 @@
--- The rules that make a tableau (Emerson and Clarke 1982).
+-- The rules that make a tableau, or a part of it (Emerson and Clarke 1982).
 use Rattle.std.specs.Prelude.{ℕ, zero, suc, ◌≡◌, ◌<◌, ◌≤◌, ◌⊎◌, ◌↔◌, false, true, Option, Some, None, List, length, Contains, slice_get}
 use Rattle.pair_structure.specs.Role.{RoleParts, IsRole, HasOneStart, first_start}
 use Rattle.pair_structure.specs.Structure.{TakesArc, OtherStays}
 use Rattle.pair_structure.specs.declared.side.Side.{Side}
 use Rattle.ctl_form.specs.declared.part.Part.TheVariants.{Next}
 use Rattle.closure_sets.specs.ClosureParts.{ClosureParts, IsClosureParts, count}
-use Rattle.closure_sets.specs.Expansion.{expansion}
 use Rattle.closure_sets.specs.Firsts.{IsOneOf}
 use Rattle.closure_sets.specs.Full.{Has, EachRow}
 use Rattle.closure_sets.specs.Label.{part_of}
 use Rattle.closure_sets.specs.Row.{Members}
-use Rattle.tableau_graph.specs.TableauParts.{TableauParts, and_at, or_at, pair_of, row_of, origin_of, seed_of, edges_at, somes_below, next_of}
+use Rattle.tableau_graph.specs.TableauParts.{TableauParts, offered, and_at, or_at, pair_of, row_of, origin_of, seed_of, edges_at, somes_below, next_of}
 use Rattle.tableau_graph.specs.declared.nodes.AndNode.{AndNode}
 use Rattle.tableau_graph.specs.declared.nodes.OrNode.{OrNode}
 
@@ -33,10 +32,10 @@ pub record IsRoot (t : TableauParts) (node : OrNode) : Type 0 where
   pub origin : origin_of node ≡ (first_start t.a, first_start t.b)
   pub seed : (j : ℕ) → Has (seed_of node) j ↔ Contains t.closure.roots j
 
--- the AND node has a pair that the OR node leads to, and a row of the expansion of its row there
+-- the AND node has a pair that the OR node leads to, and a row that is offered of its row there
 pub record IsChild (t : TableauParts) (node : OrNode) (child : AndNode) : Type 0 where
   pub leads : LeadsTo t.a t.b node.side (origin_of node) (pair_of child)
-  pub row : IsOneOf (expansion t.closure (pair_of child) (seed_of node)) (row_of child)
+  pub row : IsOneOf (offered t.breadth t.closure (pair_of child) (seed_of node)) (row_of child)
 
 -- some node of the list has this pair and row
 abbrev pub HasNode : TableauParts → List ℕ → ℕ × ℕ → Members → Type 0
@@ -46,7 +45,7 @@ HasNode t numbers pair row = (n : ℕ) × Contains numbers n × (pair_of (and_at
 pub record AreChildren (t : TableauParts) (node : OrNode) (numbers : List ℕ) : Type 0 where
   pub within : (n : ℕ) → Contains numbers n → n < length t.ands
   pub each : (n : ℕ) → Contains numbers n → IsChild t node (and_at t.ands n)
-  pub all : (pair : ℕ × ℕ) → LeadsTo t.a t.b node.side (origin_of node) pair → EachRow (HasNode t numbers pair) (expansion t.closure pair (seed_of node))
+  pub all : (pair : ℕ × ℕ) → LeadsTo t.a t.b node.side (origin_of node) pair → EachRow (HasNode t numbers pair) (offered t.breadth t.closure pair (seed_of node))
 
 -- the OR node that an AND node's EXs h leads to
 pub record IsSuccessor (c : ClosureParts) (node : AndNode) (side : Side) (h : ℕ) (successor : OrNode) : Type 0 where
@@ -93,7 +92,7 @@ pub record FollowsRules (t : TableauParts) : Type 0 where
   pub ands_reached : (n : ℕ) → n < length t.ands → IsReachedAnd t n
   pub ors_reached : (o : ℕ) → o < length t.ors → IsReachedOr t o
 
--- the graph of the rules: each of its nodes is expanded
+-- the graph of the rules, of its breadth: each of its nodes is expanded
 pub record IsTableau (t : TableauParts) : Type 0 where
   pub rules : FollowsRules t
   pub all_ors : length t.children ≡ length t.ors

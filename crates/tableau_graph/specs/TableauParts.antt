@@ -1,24 +1,37 @@
 -- What contracts see of a tableau: its AND nodes and its OR nodes in the order of their numbers, and the edges between them.
-use Rattle.std.specs.Prelude.{ℕ, zero, suc, Bool, true, false, ◌&&◌, None, List, [], slice_index_or}
+use Rattle.std.specs.Prelude.{ℕ, zero, suc, ◌≡◌, Bool, true, false, ◌&&◌, None, List, [], slice_index_or}
 use Rattle.pair_structure.specs.Role.{RoleParts}
 use Rattle.ctl_form.specs.declared.part.Part.{Part}
 use Rattle.ctl_form.specs.declared.part.Part.TheVariants.{Yes, No, Lit, Both, Either, Next, Until}
 use Rattle.closure_sets.specs.ClosureParts.{ClosureParts}
+use Rattle.closure_sets.specs.Expansion.{expansion, one_sided}
 use Rattle.closure_sets.specs.Label.{part_of}
 use Rattle.closure_sets.specs.Row.{Members, set_of}
 use Rattle.closure_sets.specs.declared.row.Row.{Row}
+use Rattle.tableau_graph.specs.declared.breadth.Breadth.{Breadth}
+use Rattle.tableau_graph.specs.declared.breadth.Breadth.TheVariants.{Whole, OneSided}
 use Rattle.tableau_graph.specs.declared.nodes.AndNode.{AndNode}
 use Rattle.tableau_graph.specs.declared.nodes.OrNode.{OrNode}
+
+-- the rows that a graph of this breadth offers of a seed at a label
+abbrev pub offered : Breadth → ClosureParts → ℕ × ℕ → Members → List Members
+offered Whole c label seed = expansion c label seed
+offered OneSided c label seed = one_sided c label seed
 
 -- children: of each OR node the numbers of AND nodes; successors: of each AND node the numbers of OR nodes
 pub record TableauParts : Type 0 where
   pub closure : ClosureParts
   pub a : RoleParts
   pub b : RoleParts
+  pub breadth : Breadth
   pub ands : List AndNode
   pub ors : List OrNode
   pub children : List (List ℕ)
   pub successors : List (List ℕ)
+
+-- each row of an expansion is offered
+abbrev pub IsWhole : TableauParts → Type 0
+IsWhole t = t.breadth ≡ Whole
 
 abbrev pub no_row : Row
 no_row = record { words = [] }

@@ -1,11 +1,14 @@
 ghost use Rattle.std.specs.Prelude.{◌≡◌, ◌++◌, ◌↔◌, ℕ, IfOk, OnOk, MatchOption, Contains, map};
+ghost use Rattle.closure_sets.specs.Firsts.{AreFirsts};
+ghost use Rattle.closure_sets.specs.Found.{sets_of};
 ghost use Rattle.closure_sets.specs.Row.{set_of};
+ghost use Rattle.tableau_graph.specs.TableauParts.{offered};
 ghost use Rattle.tableau_graph.specs.Growing.{AreEnds, AreNodesAt, IsEnd, and_with};
 ghost use Rattle.tableau_graph.specs.Rules.{LeadsTo};
 
 use crate::pushing::push_some;
-use crate::{AndNode, OrNode};
-use closure_sets::{Closure, Row, full_rows};
+use crate::{AndNode, Breadth, OrNode};
+use closure_sets::{Closure, Row, full_rows, one_sided_rows};
 use pair_structure::{LocalArc, Memory, Role, Side, arcs_of, local_of, with_local};
 use std::alloc::Global;
 
@@ -49,21 +52,38 @@ fn end_of(side: Side, pair: (u8, u8), arc: &LocalArc) -> Option<(u8, u8)>
     None
 }
 
-/// The nodes of a seed at these pairs: one for each row of an expansion.
+/// The nodes of a seed at these pairs: one for each row that is offered.
 pub(crate) fn nodes_at(
     alloc: Global,
     c: &Closure,
+    breadth: Breadth,
     pairs: &[(u8, u8)],
     seed: &Row,
 ) -> Result<Vec<AndNode>, Memory>
-    ensures { IfOk result (λ nodes. AreNodesAt c.now pairs.now (set_of seed.now.words) nodes.items) }
+    ensures { IfOk result (λ nodes. AreNodesAt c.now breadth pairs.now (set_of seed.now.words) nodes.items) }
 {
     let mut nodes = Vec::new(alloc);
     for pair in pairs {
-        let rows = full_rows(alloc, c, pair.0, pair.1, seed)?;
+        let rows = offered(alloc, c, breadth, *pair, seed)?;
         push_each(&mut nodes, *pair, &rows)?;
     }
     Ok(nodes)
+}
+
+/// The rows that are offered of a seed at this pair.
+fn offered(
+    alloc: Global,
+    c: &Closure,
+    breadth: Breadth,
+    pair: (u8, u8),
+    seed: &Row,
+) -> Result<Vec<Row>, Memory>
+    ensures { IfOk result (λ rows. AreFirsts (offered breadth c.now pair (set_of seed.now.words)) (sets_of rows.items)) }
+{
+    match breadth {
+        Breadth::Whole => full_rows(alloc, c, pair.0, pair.1, seed),
+        Breadth::OneSided => one_sided_rows(alloc, c, pair.0, pair.1, seed),
+    }
 }
 
 /// Puts a node for each row behind the others.

@@ -9,7 +9,7 @@ ghost use Rattle.tableau_graph.specs.TableauParts.{and_at, or_at};
 use crate::children::{nodes_at, pairs_of};
 use crate::node_table::NodeTable;
 use crate::successors::next_nodes;
-use crate::{AndNode, OrNode};
+use crate::{AndNode, Breadth, OrNode};
 use closure_sets::{Closure, Row};
 use pair_structure::{Memory, Role};
 use std::alloc::Global;
@@ -17,6 +17,7 @@ use std::alloc::Global;
 /// A tableau that grows: nodes are expanded in the order of their numbers, so that the lists of edges say how far it is.
 #[derive(Drop)]
 pub(crate) struct Growing {
+    pub(crate) breadth: Breadth,
     pub(crate) ands: NodeTable<AndNode>,
     pub(crate) ors: NodeTable<OrNode>,
     pub(crate) children: Vec<Vec<u64>>,
@@ -25,10 +26,17 @@ pub(crate) struct Growing {
 
 impl Growing {
     /// The root alone.
-    pub(crate) fn start(alloc: Global, c: &Closure, a: &Role, b: &Role) -> Result<Growing, Memory>
+    pub(crate) fn start(
+        alloc: Global,
+        c: &Closure,
+        a: &Role,
+        b: &Role,
+        breadth: Breadth,
+    ) -> Result<Growing, Memory>
         requires one_a { HasOneStart a.now }
         requires one_b { HasOneStart b.now }
-        ensures { IfOk result (λ g. FollowsRules (parts_of c.now a.now b.now g)) }
+        ensures breadth { IfOk result (λ g. g.breadth ≡ breadth) }
+        ensures rules { IfOk result (λ g. FollowsRules (parts_of c.now a.now b.now g)) }
     {
         c.tell_members();
         tell_role(a);
@@ -36,6 +44,7 @@ impl Growing {
         let mut ors = NodeTable::new(alloc);
         ors.number(root_node(c, a, b))?;
         Ok(Growing {
+            breadth,
             ands: NodeTable::new(alloc),
             ors,
             children: Vec::new(alloc),
@@ -52,6 +61,7 @@ impl Growing {
         b: &Role,
     ) -> Result<bool, Memory>
         requires rules { FollowsRules (parts_of c.now a.now b.now self.old) }
+        ensures breadth { self.new.breadth ≡ self.old.breadth }
         ensures rules { OnOk result (FollowsRules (parts_of c.now a.now b.now self.new)) }
         ensures done { IfOk result (λ more. more ≡ false → IsTableau (parts_of c.now a.now b.now self.new)) }
         ensures room { IfOk result (λ more. more ≡ true → room_of self.new < room_of self.old) }
@@ -86,12 +96,13 @@ impl Growing {
     fn expand_or(&mut self, alloc: Global, c: &Closure, a: &Role, b: &Role) -> Result<(), Memory>
         requires open { length self.old.children.items < length self.old.ors }
         requires rules { FollowsRules (parts_of c.now a.now b.now self.old) }
+        ensures breadth { self.new.breadth ≡ self.old.breadth }
         ensures rules { OnOk result (FollowsRules (parts_of c.now a.now b.now self.new)) }
         ensures room { OnOk result (room_of self.new < room_of self.old) }
     {
         let node = self.open_or();
         let pairs = pairs_of(alloc, a, b, &node)?;
-        let nodes = nodes_at(alloc, c, &pairs, &node.row)?;
+        let nodes = nodes_at(alloc, c, self.breadth, &pairs, &node.row)?;
         let numbers = self.ands.number_each(alloc, &nodes)?;
         self.ands.tell_apart();
         self.children.push(numbers)?;
@@ -101,6 +112,7 @@ impl Growing {
     fn expand_and(&mut self, alloc: Global, c: &Closure, _a: &Role, _b: &Role) -> Result<(), Memory>
         requires open { length self.old.successors.items < length self.old.ands }
         requires rules { FollowsRules (parts_of c.now _a.now _b.now self.old) }
+        ensures breadth { self.new.breadth ≡ self.old.breadth }
         ensures rules { OnOk result (FollowsRules (parts_of c.now _a.now _b.now self.new)) }
         ensures room { OnOk result (room_of self.new < room_of self.old) }
     {

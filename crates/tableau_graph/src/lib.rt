@@ -1,6 +1,7 @@
 //! The graph of AND and OR nodes from which pair structures are unravelled.
 #![tactic(auto)]
 
+mod breadth;
 mod children;
 mod growing;
 mod laws;
@@ -12,6 +13,7 @@ mod some_next;
 mod successors;
 mod tableau;
 
+pub use breadth::Breadth;
 pub use laws::{
     tableau_covers, tableau_follows_arcs, tableau_has_children, tableau_is_graph,
     tableau_root_covers, tableau_starts,

@@ -8,7 +8,7 @@ use Rattle.ctl_form.specs.NormalParts.{NormalParts}
 use Rattle.ctl_form.specs.Truth.{Holds}
 use Rattle.ctl_form.specs.declared.part.Part.{Part}
 use Rattle.tableau_graph.specs.Rules.{IsTableau}
-use Rattle.tableau_graph.specs.TableauParts.{TableauParts}
+use Rattle.tableau_graph.specs.TableauParts.{IsWhole, TableauParts}
 use Rattle.deletion_rules.specs.Outcome.{IsPruned}
 use Rattle.deletion_rules.specs.Pruned.{IsUnsatisfiable, RankParts}
 use Rattle.deletion_rules.specs.Satisfying.{Satisfies}
@@ -21,7 +21,7 @@ use Rattle.unravel.specs.declared.synthesis.Outcome.{Outcome}
 pub alive_is : (t : TableauParts) (p : Pruned) (r : RankParts) → p ≡ Alive r → IsPruned t p → r.tableau ≡ t
 alive_is t p r e h = let z = subst (IsPruned t) e h in z.0
 
-pub dead_is : (t : TableauParts) (p : Pruned) → p ≡ Dead → IsPruned t p → IsUnsatisfiable t
+pub dead_is : (t : TableauParts) (p : Pruned) → p ≡ Dead → IsPruned t p → IsWhole t → IsUnsatisfiable t
 dead_is t p e h = subst (IsPruned t) e h
 
 -- what was answered for copies of the roles with one start each

@@ -6,3 +6,4 @@ pub mod Joined
 pub mod Joining
 pub mod Pursuit
 pub mod Targets
+pub mod Unravelled

@@ -4,11 +4,12 @@ ghost use Rattle.pair_structure.specs.Structure.{Structure, start_count};
 ghost use Rattle.unravel.specs.inside.Joined.{whole_of};
 ghost use Rattle.unravel.specs.inside.Joining.{HaveRoots, IsAtRow, IsJoined};
 ghost use Rattle.unravel.specs.Outcome.{IsSynthesized, SatisfiesRoots};
+ghost use Rattle.unravel.specs.inside.Unravelled.{IsUnravelledOf};
 
 use crate::joining::Joining;
 use crate::unravelling::unravelled;
 use closure_sets::Closure;
-use ctl_form::Normal;
+use ctl_form::{Normal, Part};
 use deletion_rules::{Pruned, prune};
 use pair_structure::{Memory, PairStructure, Role};
 use std::alloc::Global;
@@ -66,19 +67,54 @@ fn join_row(
     Ok(true)
 }
 
-/// The same over roles with one start each.
+/// The same over roles with one start each: from a part of the tableau, if it tells of a structure, and else from the whole.
 fn synthesize_one(alloc: Global, a: &Role, b: &Role, form: &Normal) -> Result<Outcome, Memory>
     requires one_a { HasOneStart a.now }
     requires one_b { HasOneStart b.now }
     ensures { IfOk result (IsSynthesized a.now b.now form.now) }
 {
     let closure = Closure::of(alloc, form)?;
+    if has_choices(&closure) {
+        let part = Tableau::build_part(alloc, &closure, a, b)?;
+        if let Some(m) = structure_of(alloc, part)? {
+            return Ok(Outcome::Structure(m));
+        }
+    }
     let tableau = Tableau::build(alloc, &closure, a, b)?;
+    match structure_of(alloc, tableau)? {
+        Some(m) => Ok(Outcome::Structure(m)),
+        None => Ok(Outcome::Unsatisfiable),
+    }
+}
+
+/// A structure from what the rules of deletion leave of the tableau; none where they leave nothing, which tells of a whole tableau alone that
+/// no structure satisfies the conjuncts.
+fn structure_of(alloc: Global, tableau: Tableau) -> Result<Option<PairStructure>, Memory>
+    ensures { IfOk result (IsUnravelledOf tableau) }
+{
     match prune(alloc, tableau)? {
         Pruned::Alive(ranks) => {
             let m = unravelled(alloc, &ranks)?;
-            Ok(Outcome::Structure(m))
+            Ok(Some(m))
         }
-        Pruned::Dead => Ok(Outcome::Unsatisfiable),
+        Pruned::Dead => Ok(None),
+    }
+}
+
+/// Whether several E untils can be put off at once, so that a part of the tableau may be smaller than the whole.
+fn has_choices(c: &Closure) -> bool {
+    let mut untils = 0u32;
+    for member in 0..c.count() {
+        if is_some_until(c.part(member)) {
+            untils = untils.saturating_add(1);
+        }
+    }
+    untils > 1
+}
+
+fn is_some_until(part: Part) -> bool {
+    match part {
+        Part::Until { all: false, .. } => true,
+        _ => false,
     }
 }

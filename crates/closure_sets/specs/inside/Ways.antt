@@ -1,5 +1,6 @@
 -- The rows in which a member is treated, as the code has them: one to three.
 use Rattle.std.specs.Prelude.{ℕ, Bool, Option, Some, None, List, [], ◌∷◌}
+use Rattle.pair_structure.specs.declared.side.Side.{Side}
 use Rattle.closure_sets.specs.ClosureParts.{ClosureParts}
 use Rattle.closure_sets.specs.Expansion.{expand, rows_of}
 use Rattle.closure_sets.specs.Row.{Members, set_of}
@@ -14,5 +15,5 @@ abbrev pub ways_rows : Ways → List Members
 ways_rows w = set_of w.first.words ∷ with_row w.second (with_row w.third [])
 
 -- the expansions of rows in which these members are treated, one after another
-abbrev pub treat_rows : ClosureParts → (ℕ → Bool) → (Members → Bool) → ℕ → Members → List Members → List Members
-treat_rows c easy clash d treated rows = rows_of (λ r. expand c easy clash d r treated) rows
+abbrev pub treat_rows : ClosureParts → Option Side → (ℕ → Bool) → (Members → Bool) → ℕ → Members → List Members → List Members
+treat_rows c only easy clash d treated rows = rows_of (λ r. expand c only easy clash d r treated) rows

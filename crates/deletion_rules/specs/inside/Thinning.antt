@@ -1,7 +1,7 @@
 -- Deletion of nodes of which a successor has no living child.
 use Rattle.std.specs.Prelude.{ℕ, ◌≡◌, ◌<◌, ◌+◌, Bool, true, false, not, List, Contains, count_by, length}
 use Rattle.tableau_graph.specs.Graph.{graph_of}
-use Rattle.tableau_graph.specs.TableauParts.{TableauParts}
+use Rattle.tableau_graph.specs.TableauParts.{IsWhole, TableauParts}
 use Rattle.deletion_rules.specs.inside.Cursors.{AreCursors}
 use Rattle.deletion_rules.specs.Deletion.{LivesOr}
 use Rattle.deletion_rules.specs.inside.Edges.{IsArrow}
@@ -10,11 +10,11 @@ use Rattle.deletion_rules.specs.Met.{MetLive}
 use Rattle.deletion_rules.specs.declared.edges.Arrow.{Arrow}
 use Rattle.deletion_rules.specs.declared.thinning.Thinning.{Thinning}
 
--- nodes were deleted; if all that is met lived before, it does so still
+-- nodes were deleted; if in a whole tableau all that is met lived before, it does so still
 pub record IsThinned (t : TableauParts) (lives left : List Bool) : Type 0 where
   pub long : length left ≡ length lives
   pub within : (n : ℕ) → lives_of left n ≡ true → lives_of lives n ≡ true
-  pub met : MetLive t.a t.b t.closure (graph_of t) (lives_of lives) → MetLive t.a t.b t.closure (graph_of t) (lives_of left)
+  pub met : IsWhole t → MetLive t.a t.b t.closure (graph_of t) (lives_of lives) → MetLive t.a t.b t.closure (graph_of t) (lives_of left)
 
 -- the OR node has no living child
 abbrev pub IsLost : TableauParts → List Bool → ℕ → Type 0

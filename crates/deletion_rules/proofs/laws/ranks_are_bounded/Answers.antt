@@ -3,4 +3,4 @@ use Rattle.deletion_rules.proofs.Survive
 use Rattle.deletion_rules.proofs.laws.ranks_are_bounded.Goals as goal
 
 pub returns : goal.returns
-returns c = λ t k. Survive.ranks_bounded t.a t.b t.closure k.rules.closure (graph_of t) (c.tableau_is_graph.ensures t k) (c.tableau_covers.ensures t k)
+returns c = λ t k whole. Survive.ranks_bounded t.a t.b t.closure k.rules.closure (graph_of t) (c.tableau_is_graph.ensures t k) (c.tableau_covers.ensures t k whole)

@@ -3,4 +3,4 @@ use Rattle.deletion_rules.proofs.Removal
 use Rattle.deletion_rules.proofs.laws.removal_keeps_met.Goals as goal
 
 pub returns : goal.returns
-returns c = λ t k. Removal.removal_keeps_met t.a t.b t.closure k.rules.closure (graph_of t) (c.tableau_is_graph.ensures t k) (c.tableau_covers.ensures t k)
+returns c = λ t k whole. Removal.removal_keeps_met t.a t.b t.closure k.rules.closure (graph_of t) (c.tableau_is_graph.ensures t k) (c.tableau_covers.ensures t k whole)

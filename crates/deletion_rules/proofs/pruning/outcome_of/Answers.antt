@@ -19,4 +19,4 @@ returns-then-lives_or c =
 pub returns : goal.returns
 returns c =
     let root : lives_or c.args.t c.args.left.lives.items 0 ≡ false = ap (λ (l : List Bool). lives_or c.args.t l 0) (sym c.deref.ensures.value) ∙ sym c.lives_or.ensures ∙ c.if-lives_or.false in
-    met_dead c.args.t c.tell_rules.ensures (c.tableau_is_graph.ensures c.args.t c.tell_rules.ensures) (c.tableau_root_covers.ensures c.args.t c.tell_rules.ensures) c.args.left.lives.items c.requires.met (λ h. let x : true ≡ false = sym (lives_or_in c.args.t c.args.left.lives.items 0 h) ∙ root in cc)
+    λ whole. met_dead c.args.t c.tell_rules.ensures (c.tableau_is_graph.ensures c.args.t c.tell_rules.ensures) (c.tableau_root_covers.ensures c.args.t c.tell_rules.ensures whole) c.args.left.lives.items (c.requires.met whole) (λ h. let x : true ≡ false = sym (lives_or_in c.args.t c.args.left.lives.items 0 h) ∙ root in cc)

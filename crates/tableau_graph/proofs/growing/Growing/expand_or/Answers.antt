@@ -12,5 +12,5 @@ returns-clause-rules c =
     let g = c.args.self.now in
     or_grown c.args.c.now c.args.a.now c.args.b.now g node c.number_each.new.self c.push.new.self c.deref.result.now c.deref-2.result.now c.in_ok-numbers.numbers c.requires.rules c.requires.open c.open_or-node.ensures
     (subst (λ (l : List (ℕ × ℕ)). (pair : ℕ × ℕ) → Contains l pair ↔ LeadsTo c.args.a.now c.args.b.now node.side (origin_of node) pair) (sym c.deref.ensures.value) c.in_ok-pairs.ensures)
-    (subst (λ (l : List AndNode). AreNodesAt c.args.c.now c.deref.result.now (seed_of node) l) (sym c.deref-2.ensures.value) c.in_ok-nodes.ensures)
+    (subst (λ (l : List AndNode). AreNodesAt c.args.c.now g.breadth c.deref.result.now (seed_of node) l) (sym c.deref-2.ensures.value) c.in_ok-nodes.ensures)
     c.in_ok-numbers.ensures c.tell_apart.ensures c.in_ok-push.ensures.items
