@@ -2,22 +2,21 @@
 use Rattle.std.proofs.Common.{ℕ, ◌≡◌, ◌<◌, Some, [], length, List, refl, sym, ◌∙◌, ap, subst, get_or, true, Any, Contains}
 use Rattle.std.proofs.lemmas.List.Elements.{All-contains, Contains-get_or, filter_passes}
 use Rattle.pair_structure.specs.declared.side.LocalArc.{LocalArc}
-use Rattle.pair_structure.specs.declared.side.Side.{Side}
 use Rattle.pair_structure.specs.Ordinal.{IsStateAt, ordinal_of}
 use Rattle.pair_structure.specs.Parts.{arc_at}
 use Rattle.pair_structure.specs.Sides.{arcs_of, local_of, opposite, with_local}
-use Rattle.pair_structure.specs.Structure.{label_at}
+use Rattle.pair_structure.specs.Structure.{Structure, label_at}
 use Rattle.skeleton_extract.specs.declared.command.Command.{Command}
 use Rattle.skeleton_extract.specs.Commands.{IsCommand, IsListed, Lists, commands_of}
 use Rattle.skeleton_extract.specs.Permission.{is_permitted, no_command, permitted_of, picked}
 use Rattle.skeleton_extract.proofs.Moving.{command_moves}
 use Rattle.interconnection.specs.declared.parts.Beside.{Beside}
-use Rattle.interconnection.specs.Graph.{IsBeside, end_of}
+use Rattle.interconnection.specs.Graph.{IsBeside}
 use Rattle.conjunctive_compose.specs.declared.wish.Wish.{Wish}
-use Rattle.conjunctive_compose.specs.System.{SystemParts, IsSystem, edge_at, edge_count, lists_at, role_of, side_on, structure_at}
-use Rattle.conjunctive_compose.specs.Whole.{WholeParts, HasPair, IsProper, label_on, value_at}
-use Rattle.conjunctive_compose.specs.Firing.{Moves, Permits, WishFits, across, arc_of, fired, permitted, value_by}
-use Rattle.conjunctive_compose.specs.NextPair.{IsLeft, IsNextPair, NeverPermits}
+use Rattle.conjunctive_compose.specs.System.{SystemParts, IsSystem, edge_at, lists_at, role_of, side_on, structure_at}
+use Rattle.conjunctive_compose.specs.Whole.{WholeParts, HasPair, value_at}
+use Rattle.conjunctive_compose.specs.Firing.{WishFits, across, arc_of, fired, permitted, value_by}
+use Rattle.conjunctive_compose.specs.NextPair.{IsLeft, IsNextPair, NeverPermits, permitted_at}
 use Rattle.conjunctive_compose.proofs.Edges.{edge_lawful}
 use Rattle.conjunctive_compose.proofs.Filters.{filter_from, is_permitted-known, picked_is}
 use Rattle.conjunctive_compose.proofs.Pairs.{arcs_are, label_fired, local_of-label_on, pair_there, value_fired}
@@ -44,7 +43,7 @@ module _ (sys : SystemParts) (wish : Wish) (b : Beside) (s : ℕ) (system : IsSy
   other = local_of (opposite b.side) label
 
   abbrev pub open_here : List Command
-  open_here = permitted_of (commands_of (lists_at sys b.edge) b.side wish.arc) other (ordinal_of states s)
+  open_here = permitted_at sys wish b s
 
   abbrev pub arc : LocalArc
   arc = arc_of sys wish.process wish.arc
@@ -60,7 +59,7 @@ module _ (sys : SystemParts) (wish : Wish) (b : Beside) (s : ℕ) (system : IsSy
   never_permits none w pair may = permits_open sys w b.side wish.arc b.edge may (same_open w pair ∙ none)
 
   -- the picked command is a move from here
-  next_there : (set : ℕ) → 0 < length open_here → set ≡ (picked open_here wish.pick).set → (t : ℕ) × IsStateAt states (with_local b.side label arc.to) set t
+  pub next_there : (set : ℕ) → 0 < length open_here → set ≡ (picked open_here wish.pick).set → (t : ℕ) × IsStateAt states (with_local b.side label arc.to) set t
   next_there set some is =
       let lawful = edge_lawful sys b.edge system beside.within in
       let ra = role_of sys (edge_at sys b.edge).a in
@@ -90,29 +89,7 @@ module _ (sys : SystemParts) (wish : Wish) (b : Beside) (s : ℕ) (system : IsSy
         pair_there sys (fired sys w wish) e t set (with_local b.side label arc.to) there lab val;
   }
 
--- what is computed from the state is what the definitions name
-pub record AreFound (sys : SystemParts) (wish : Wish) (b : Beside) (s other x : ℕ) (lists : Lists) : Type 0 where
-  pub other_is : other ≡ local_of (opposite b.side) (label_at (structure_at sys b.edge).states s)
-  pub x_is : x ≡ ordinal_of (structure_at sys b.edge).states s
-  pub lists_are : lists ≡ lists_at sys b.edge
-
-same_lists : (sys : SystemParts) (wish : Wish) (b : Beside) (s other x : ℕ) (lists : Lists) → AreFound sys wish b s other x lists
-    → permitted_of (commands_of lists b.side wish.arc) other x ≡ permitted_of (commands_of (lists_at sys b.edge) b.side wish.arc) (local_of (opposite b.side) (label_at (structure_at sys b.edge).states s)) (ordinal_of (structure_at sys b.edge).states s)
-same_lists sys wish b s other x lists found = λ i. permitted_of (commands_of (found.lists_are i) b.side wish.arc) (found.other_is i) (found.x_is i)
-
-pub never_told : (sys : SystemParts) (wish : Wish) (b : Beside) (s other x : ℕ) (lists : Lists) → IsSystem sys → WishFits sys wish → IsBeside sys.network.edges wish.process b → IsLeft sys wish b s → AreFound sys wish b s other x lists → permitted_of (commands_of lists b.side wish.arc) other x ≡ [] → NeverPermits sys wish b s
-never_told sys wish b s other x lists system fits beside left found none = never_permits sys wish b s system fits beside left (sym (same_lists sys wish b s other x lists found) ∙ none)
-
-pub next_exists : (sys : SystemParts) (wish : Wish) (b : Beside) (s other x set : ℕ) (lists : Lists) → IsSystem sys → WishFits sys wish → IsBeside sys.network.edges wish.process b → IsLeft sys wish b s → AreFound sys wish b s other x lists
-    → (0 < length (permitted_of (commands_of lists b.side wish.arc) other x)) × (set ≡ (picked (permitted_of (commands_of lists b.side wish.arc) other x) wish.pick).set)
-    → (t : ℕ) × IsStateAt (structure_at sys b.edge).states (with_local b.side (label_at (structure_at sys b.edge).states s) (arc_of sys wish.process wish.arc).to) set t
-next_exists sys wish b s other x set lists system fits beside left found chosen =
-    let same = same_lists sys wish b s other x lists found in
-    next_there sys wish b s system fits beside left set (subst (λ (l : List Command). 0 < length l) same chosen.0) (chosen.1 ∙ ap (λ (l : List Command). (picked l wish.pick).set) same)
-
-pub next_told : (sys : SystemParts) (wish : Wish) (b : Beside) (s other x set t : ℕ) (lists : Lists) → IsSystem sys → WishFits sys wish → IsBeside sys.network.edges wish.process b → IsLeft sys wish b s → AreFound sys wish b s other x lists
-    → (0 < length (permitted_of (commands_of lists b.side wish.arc) other x)) × (set ≡ (picked (permitted_of (commands_of lists b.side wish.arc) other x) wish.pick).set)
-    → IsStateAt (structure_at sys b.edge).states (with_local b.side (label_at (structure_at sys b.edge).states s) (arc_of sys wish.process wish.arc).to) set t → IsNextPair sys wish b s t
-next_told sys wish b s other x set t lists system fits beside left found chosen there =
-    let same = same_lists sys wish b s other x lists found in
-    next_pair sys wish b s system fits beside left set t (subst (λ (l : List Command). 0 < length l) same chosen.0) (chosen.1 ∙ ap (λ (l : List Command). (picked l wish.pick).set) same) there
+-- what is read of state s names the commands that it permits
+pub permitted_at-read : (sys : SystemParts) (wish : Wish) (b : Beside) (s : ℕ) (m : Structure) (lists : Lists) (other x : ℕ) → m ≡ structure_at sys b.edge → lists ≡ lists_at sys b.edge
+    → other ≡ local_of (opposite b.side) (label_at m.states s) → x ≡ ordinal_of m.states s → permitted_of (commands_of lists b.side wish.arc) other x ≡ permitted_at sys wish b s
+permitted_at-read sys wish b s m lists other x m_is lists_are other_is x_is = rw (other_is, x_is, lists_are, m_is) refl
