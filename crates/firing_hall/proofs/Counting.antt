@@ -2,9 +2,9 @@
 use Rattle.std.proofs.Common.{ℕ, zero, suc, ◌≡◌, ◌<◌, ◌≤◌, ◌+◌, List, [], ◌∷◌, ◌++◌, length, set, arith, ap}
 use Rattle.firing_words.specs.History.{Firing, made_by}
 use Rattle.firing_words.proofs.Making.{length-made, sum_below}
-use Rattle.firing_hall.specs.Closing.{kept_in, total}
+use Rattle.firing_hall.specs.inside.Taking.{kept_in, total}
 use Rattle.firing_journal.specs.Report.{list_by}
-use Rattle.firing_hall.specs.Reports.{AreListsOf, makings_of}
+use Rattle.firing_hall.specs.inside.Gathering.{AreListsOf, makings_of}
 use Rattle.firing_journal.specs.declared.asked.Asked.{Asked}
 use Rattle.firing_journal.specs.declared.asked.Asked.TheVariants.{Fired, Away, Blocked, Seen, SeenPair}
 use Rattle.firing_hall.specs.declared.pass.Pass.{Pass}

@@ -14,7 +14,8 @@ use Rattle.firing_journal.specs.declared.journal.Entry.{Entry}
 use Rattle.firing_journal.specs.Journal.{AreNumbered}
 use Rattle.firing_journal.specs.Report.{list_by}
 use Rattle.firing_journal.proofs.Numbered.{numbered_each}
-use Rattle.firing_hall.specs.Reports.{AreListsOf, all_placed, entry_at, makings_of, firing_of, log_of, no_entry, placed}
+use Rattle.firing_hall.specs.inside.Gathering.{AreListsOf, all_placed, entry_at, makings_of, no_entry, placed}
+use Rattle.firing_hall.specs.Reports.{firing_of, log_of}
 
 -- at place p the entry is the history's
 abbrev pub IsFilled : List Firing → List Entry → ℕ → Type 0

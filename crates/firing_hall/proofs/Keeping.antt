@@ -10,13 +10,17 @@ use Rattle.firing_words.specs.declared.view.Item.{Item}
 use Rattle.firing_words.specs.declared.view.Item.TheVariants.{Made, Placed, Seen}
 use Rattle.firing_words.specs.declared.view.Track.{Track}
 use Rattle.firing_words.specs.declared.view.View.{View}
+use Rattle.firing_words.specs.declared.hand.Hand.{Hand}
+use Rattle.firing_words.specs.declared.words.Words.{Words}
+use Rattle.firing_words.specs.Hands.{IsOf, view}
+use Rattle.firing_words.specs.Of.{system_of}
 use Rattle.firing_words.specs.Lists.{Has}
 use Rattle.firing_words.specs.Notes.{made_of}
 use Rattle.firing_words.specs.Telling.{AreTold, Tells}
 use Rattle.firing_words.specs.Views.{callers_of}
-use Rattle.firing_hall.specs.Halls.{IsReplied}
+use Rattle.firing_hall.specs.inside.Replies.{IsReplied}
 use Rattle.firing_hall.specs.Passes.{IsToldOf, kept_of, with_kept}
-use Rattle.firing_hall.specs.Plans.{OneItem, done_of, with_item}
+use Rattle.firing_hall.specs.Items.{OneItem, done_of, with_item}
 use Rattle.firing_journal.specs.Report.{told_of}
 use Rattle.firing_journal.specs.declared.asked.Asked.{Asked}
 use Rattle.firing_journal.specs.declared.asked.Asked.TheVariants.{Fired as FiredAsked, Away as AwayAsked, Blocked as BlockedAsked}
@@ -33,6 +37,13 @@ callers_done v = along v.tracks
 
 pub one_caller : (sys : SystemParts) (v : View) (caller : ℕ) (asked : List Asked) → IsToldOf sys v caller asked → callers_of v ≡ caller ∷ []
 one_caller sys v caller asked told = sym (callers_done v) ∙ ap (map {B = ℕ} (λ (r : ℕ × List Item). r.0)) told.1
+
+-- the hand of a pass has the pass's caller
+pub same_caller : (words : Words) (hand : Hand) (caller : ℕ) (asked : List Asked) → IsOf words hand → IsToldOf (system_of words) (view hand) caller asked → hand.caller ≡ caller
+same_caller words hand caller asked of told = first_same (sym of.agrees.mine.1 ∙ one_caller (system_of words) (view hand) caller asked told)
+  where
+    first_same : {x y : ℕ} {xs ys : List ℕ} → x ∷ xs ≡ y ∷ ys → x ≡ y
+    first_same e = cc
 
 -- no more entries than replies
 made_few : (sys : SystemParts) (ys : List Item) (ts : List Told) → AreTold sys ys ts → length (made_of ys) ≤ length ts

@@ -18,7 +18,8 @@ use Rattle.firing_words.proofs.Telling.{told_of_track}
 use Rattle.firing_journal.specs.Journal.{AreNumbered, wishes_of}
 use Rattle.firing_journal.specs.Report.{IsLawful, entries_by, fired_of, list_by, told_of}
 use Rattle.firing_journal.proofs.Numbered.{number_at}
-use Rattle.firing_hall.specs.Reports.{AreListsOf, HasLists, makings_of, log_of}
+use Rattle.firing_hall.specs.inside.Gathering.{AreListsOf, makings_of}
+use Rattle.firing_hall.specs.Reports.{HasLists, log_of}
 use Rattle.firing_journal.specs.declared.asked.Asked.{Asked}
 use Rattle.firing_journal.specs.declared.asked.Asked.TheVariants.{Fired, Away, Blocked, Seen as SeenAsked, SeenPair}
 use Rattle.firing_journal.specs.declared.journal.Entry.{Entry}

@@ -2,7 +2,7 @@
 use Rattle.std.proofs.Common.{ℕ, ◌≡◌, ◌≢◌, ◌<◌, ◌⊎◌, inl, inr, ⊎_elim, List, [], ◌∷◌, ◌++◌, length, set, arith, refl, sym, ◌∙◌, ap, subst, get_or-set_same, get_or-set_other}
 use Rattle.firing_words.specs.Lists.{Has}
 use Rattle.firing_words.proofs.Lists.{has_push}
-use Rattle.firing_hall.specs.Closing.{IsListed}
+use Rattle.firing_hall.specs.inside.Taking.{IsListed}
 use Rattle.firing_journal.specs.Report.{list_by}
 use Rattle.firing_journal.specs.declared.asked.Asked.{Asked}
 use Rattle.firing_hall.specs.declared.pass.Pass.{Pass}

@@ -11,7 +11,8 @@ use Rattle.firing_words.specs.Lists.{Has}
 use Rattle.firing_words.specs.Views.{track_does, track_tried, tried}
 use Rattle.firing_words.proofs.Lists.{has_split}
 use Rattle.firing_hall.specs.Gates.{IsAnswered}
-use Rattle.firing_hall.specs.Halls.{HasMade, IsReplied}
+use Rattle.firing_hall.specs.Halls.{HasMade}
+use Rattle.firing_hall.specs.inside.Replies.{IsReplied}
 use Rattle.firing_hall.specs.Tries.{HasTried, HaveLost, IsBusy, IsBusyAfter, IsRefused, tries_of, try_at}
 use Rattle.firing_hall.specs.declared.reply.Reply.{Reply}
 use Rattle.firing_hall.specs.declared.reply.Reply.TheVariants.{Fired, Away, Blocked, Full, Busy}

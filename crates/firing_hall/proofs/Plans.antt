@@ -8,8 +8,8 @@ use Rattle.interconnection.proofs.Locks.{few_locks}
 use Rattle.conjunctive_compose.specs.System.{SystemParts, IsSystem, Joins, edge_count, process_count}
 use Rattle.conjunctive_compose.proofs.Neighbours.{AreBeside}
 use Rattle.firing_words.specs.Lists.{Has}
-use Rattle.firing_hall.specs.Plans.{IsPlan}
-use Rattle.firing_hall.specs.Stars.{beside_at, no_beside}
+use Rattle.firing_hall.specs.inside.Locks.{IsPlan}
+use Rattle.firing_words.specs.Stars.{beside_at, no_beside}
 use Rattle.firing_hall.proofs.Same.{at_has}
 
 has_at : (xs : List ℕ) (x : ℕ) → Has x xs → (i : ℕ) × (i < length xs) × (slice_index xs i ≡ x)

@@ -9,14 +9,14 @@ use Rattle.firing_words.specs.Lists.{Has, InTurn}
 use Rattle.firing_words.specs.Telling.{AreTold}
 use Rattle.firing_words.specs.Views.{callers_of, joined}
 use Rattle.firing_words.proofs.Lists.{has_split, only}
-use Rattle.firing_hall.specs.Closing.{AreTaken}
+use Rattle.firing_hall.specs.inside.Taking.{AreTaken}
 use Rattle.firing_hall.specs.Passes.{IsToldOf}
 use Rattle.firing_journal.specs.Report.{list_by, told_of}
 use Rattle.firing_journal.specs.declared.asked.Asked.{Asked}
 use Rattle.firing_hall.proofs.Keeping.{one_caller}
 
 -- the one track of a view
-track_told : (sys : SystemParts) (v : View) (caller : ℕ) (asked : List Asked) → IsToldOf sys v caller asked → (t : Track) × Has t v.tracks × (t.caller ≡ caller) × AreTold sys t.items (map told_of asked)
+pub track_told : (sys : SystemParts) (v : View) (caller : ℕ) (asked : List Asked) → IsToldOf sys v caller asked → (t : Track) × Has t v.tracks × (t.caller ≡ caller) × AreTold sys t.items (map told_of asked)
 track_told sys v caller asked told = along v.tracks told.1
   where
     along : (ts : List Track) → map {B = ℕ × List Item} (λ (t : Track). (t.caller, t.items)) ts ≡ (caller, told.0) ∷ [] → (t : Track) × Has t ts × (t.caller ≡ caller) × AreTold sys t.items (map told_of asked)

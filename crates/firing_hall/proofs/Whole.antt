@@ -8,7 +8,7 @@ use Rattle.firing_words.specs.declared.view.View.{View}
 use Rattle.firing_words.specs.Lists.{Has, InTurn}
 use Rattle.firing_words.specs.History.{Firing}
 use Rattle.firing_words.specs.Views.{IsPartOf, callers_of}
-use Rattle.firing_hall.specs.Closing.{AreTaken}
+use Rattle.firing_hall.specs.inside.Taking.{AreTaken}
 use Rattle.firing_hall.specs.Reports.{HasLists}
 use Rattle.firing_journal.specs.declared.asked.Asked.{Asked}
 

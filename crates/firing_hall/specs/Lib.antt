@@ -1,12 +1,10 @@
-pub mod Plans
+pub mod Items
 pub mod Passes
 pub mod Reports
-pub mod Stars
 pub mod Closing
-pub mod Decided
 pub mod Halls
 pub mod Looks
-pub mod Parts
 pub mod Opening
 pub mod Tries
 pub mod Gates
+pub mod inside

@@ -1,19 +1,18 @@
 -- Which hall a pass is of, and what it keeps.
 use Rattle.std.specs.Prelude.{ℕ, ◌≡◌, ◌<◌, ◌≤◌, ◌+◌, Option, Some, None, List, [], ◌∷◌, ◌++◌, length, map, vec_capacity}
-use Rattle.interconnection.specs.Graph.{degree_of}
-use Rattle.conjunctive_compose.specs.System.{SystemParts, process_count}
+use Rattle.conjunctive_compose.specs.System.{SystemParts}
 use Rattle.conjunctive_compose.specs.declared.wish.Wish.{Wish}
 use Rattle.firing_words.specs.declared.view.Item.{Item}
 use Rattle.firing_words.specs.declared.view.View.{View}
-use Rattle.firing_words.specs.Of.{IsOf, system_of, view}
+use Rattle.firing_words.specs.Hands.{IsOf, view}
+use Rattle.firing_words.specs.Of.{system_of}
 use Rattle.firing_words.specs.Telling.{AreTold}
 use Rattle.firing_words.specs.Views.{IsQuiet}
-use Rattle.firing_hall.specs.Plans.{done_of}
+use Rattle.firing_hall.specs.Items.{done_of}
 use Rattle.firing_journal.specs.Report.{told_of}
 use Rattle.firing_journal.specs.declared.asked.Asked.{Asked}
 use Rattle.firing_journal.specs.declared.asked.Asked.TheVariants.{Fired as FiredAsked, Away as AwayAsked, Blocked as BlockedAsked, Seen as SeenAsked, SeenPair as SeenPairAsked}
 use Rattle.firing_hall.specs.declared.firing.Hall.{Hall}
-use Rattle.firing_hall.specs.declared.firing.Scratch.{Scratch}
 use Rattle.firing_hall.specs.declared.looking.Looked.{Looked}
 use Rattle.firing_hall.specs.declared.looking.Looked.TheVariants.{Seen, Full as FullLook}
 use Rattle.firing_hall.specs.declared.looking.PairLooked.{PairLooked}
@@ -21,17 +20,6 @@ use Rattle.firing_hall.specs.declared.looking.PairLooked.TheVariants.{Seen as Se
 use Rattle.firing_hall.specs.declared.pass.Pass.{Pass}
 use Rattle.firing_hall.specs.declared.reply.Reply.{Reply}
 use Rattle.firing_hall.specs.declared.reply.Reply.TheVariants.{Fired, Away, Blocked, Full, Busy}
-
--- room for what is read and stored of process k and its edges
-abbrev pub HasSpaceFor : SystemParts → ℕ → Scratch → Type 0
-HasSpaceFor sys k s = (degree_of sys.network.edges k + 1 ≤ vec_capacity s.readings) × (degree_of sys.network.edges k + 1 ≤ vec_capacity s.stores)
-
--- room for each process and its edges
-abbrev pub HasSpace : SystemParts → Scratch → Type 0
-HasSpace sys s = (k : ℕ) → k < process_count sys → HasSpaceFor sys k s
-
-abbrev pub IsAsWide : Scratch → Scratch → Type 0
-IsAsWide before now = (vec_capacity now.readings ≡ vec_capacity before.readings) × (vec_capacity now.stores ≡ vec_capacity before.stores)
 
 -- the view has one caller, and these replies are told of what it did
 abbrev pub IsToldOf : SystemParts → View → ℕ → List Asked → Type 0
@@ -45,7 +33,6 @@ pub record IsPassOf (hall : Hall) (pass : Pass) : Type 0 where
   pub room : pass.room ≡ hall.words.setting.room
   pub few : length pass.asked.items ≤ pass.room
   pub reserved : pass.room ≤ vec_capacity pass.asked
-  pub space : HasSpace (system_of hall.words) pass.scratch
 
 -- what is kept of a reply
 abbrev pub kept_of : Wish → Reply → Option Asked

@@ -1,6 +1,6 @@
 //! The memory of a report, which is taken before the passes are joined.
 ghost use Rattle.std.specs.Prelude.{◌≡◌, ◌⊎◌, ◌≤◌, ◌-◌, ◌^◌, IfOk, length, map};
-ghost use Rattle.firing_hall.specs.Closing.{IsBlank, kept_in, total};
+ghost use Rattle.firing_hall.specs.inside.Taking.{IsBlank, kept_in, total};
 
 use crate::pass::Pass;
 use firing_journal::{Asked, Entry};

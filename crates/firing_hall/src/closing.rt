@@ -28,8 +28,10 @@ pub enum CloseFault {
 }
 
 impl Hall {
-    ghost use Rattle.firing_words.specs.Of.{IsOf, system_of, view};
-    ghost use Rattle.firing_hall.specs.Closing.{AreListsIn, AreTaken, IsBlank, IsCloseFaultOf, ProjectsToPaths, kept_in, total};
+    ghost use Rattle.firing_words.specs.Hands.{IsOf, view};
+    ghost use Rattle.firing_words.specs.Of.{system_of};
+    ghost use Rattle.firing_hall.specs.Closing.{AreListsIn, IsCloseFaultOf, ProjectsToPaths};
+    ghost use Rattle.firing_hall.specs.inside.Taking.{AreTaken, IsBlank, kept_in, total};
     ghost use Rattle.firing_hall.specs.Passes.{IsPassOf};
     ghost use Rattle.firing_journal.specs.Report.{IsLawful, lists_of};
 

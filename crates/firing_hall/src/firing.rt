@@ -1,14 +1,14 @@
 //! The hall, and one firing.
-ghost use Rattle.std.specs.Prelude.{◌≡◌, ℕ, ◌<◌, [], ◌∷◌, length};
+ghost use Rattle.std.specs.Prelude.{◌≡◌, ℕ, ◌<◌, length};
 ghost use Rattle.conjunctive_compose.specs.Firing.{WishFits};
 ghost use Rattle.firing_words.specs.Lists.{Has};
 ghost use Rattle.firing_words.specs.Notes.{made_of};
-ghost use Rattle.firing_words.specs.Views.{IsOne, IsQuiet, callers_of};
+ghost use Rattle.firing_words.specs.Views.{IsOne, IsQuiet};
 ghost use Rattle.firing_words.specs.declared.view.Track.{Track};
 
 use crate::{Gate, Reply};
 use conjunctive_compose::{System, Wish};
-use firing_words::{Hand, Reading, Words};
+use firing_words::{Hand, Words};
 
 /// A system that many callers fire at once, from threads of their own. Each call takes `&self`, so threads share it by reference.
 #[derive(Drop)]
@@ -17,19 +17,13 @@ pub struct Hall {
     ghost some: { 0 < words.setting.callers },
 }
 
-/// Room for what is read under the locks of a plan, and for what a firing makes of it.
-#[derive(Drop)]
-pub(crate) struct Scratch {
-    pub(crate) readings: Vec<Reading>,
-    pub(crate) stores: Vec<Reading>,
-}
-
 impl Hall {
-    ghost use Rattle.firing_words.specs.Of.{IsOf, system_of, view};
+    ghost use Rattle.firing_words.specs.Hands.{IsOf, view};
+    ghost use Rattle.firing_words.specs.Of.{system_of};
     ghost use Rattle.firing_hall.specs.Gates.{IsAnswered};
-    ghost use Rattle.firing_hall.specs.Halls.{IsReplied, NamesProcess};
-    ghost use Rattle.firing_hall.specs.Passes.{HasSpaceFor, IsAsWide};
-    ghost use Rattle.firing_hall.specs.Plans.{HoldsOnly, IsBare, IsPlan};
+    ghost use Rattle.firing_hall.specs.inside.Replies.{IsReplied};
+    ghost use Rattle.firing_hall.specs.Halls.{NamesProcess};
+    ghost use Rattle.firing_hall.specs.inside.Locks.{HoldsOnly, IsBare, IsPlan};
     ghost use Rattle.firing_hall.specs.Tries.{HasTried, IsBusyAfter, tries_of};
 
     /// The system that is fired.
@@ -40,21 +34,13 @@ impl Hall {
     }
 
     /// Answers a wish whose locks are all held, and gives them up. The gate is called before anything is read.
-    fn answer<G: Gate>(
-        &self,
-        hand: &mut Hand,
-        wish: Wish,
-        plan: &[u32],
-        scratch: &mut Scratch,
-        gate: &mut G,
-    ) -> Reply
+    fn answer<G: Gate>(&self, hand: &mut Hand, wish: Wish, plan: &[u32], gate: &mut G) -> Reply
         requires of { IsOf self.now.words hand.old }
         requires mine { IsOne (view hand.old) }
         requires fits { WishFits (system_of self.now.words) wish }
         requires plan { IsPlan (system_of self.now.words) wish.process plan.now }
         requires held { HoldsOnly (view hand.old) plan.now }
         requires bare { IsBare (view hand.old) }
-        requires space { HasSpaceFor (system_of self.now.words) wish.process scratch.old }
         requires room { (t : Track) → Has t (view hand.old).tracks → length (made_of t.items) < self.now.words.setting.room }
         ensures of { IsOf self.now.words hand.new }
         ensures quiet { IsQuiet (view hand.new) }
@@ -62,13 +48,11 @@ impl Hall {
         ensures tries { tries_of (view hand.new) ≡ tries_of (view hand.old) }
         ensures named { NamesProcess (system_of self.now.words) result }
         ensures gate { G.opens gate.old gate.new }
-        ensures space { IsAsWide scratch.old scratch.new }
     {
         gate.held();
         let list = self.words.system().network().neighbours(wish.process);
-        self.read_star(hand, wish.process, list, &mut scratch.readings);
-        let answer = self.decide(hand, wish, list, &scratch.readings, &mut scratch.stores);
-        let reply = self.reply(hand, wish, answer, &scratch.stores);
+        self.read_star(hand, wish.process, list);
+        let reply = self.reply(hand, wish);
         self.release(hand, wish.process, plan, plan.len());
         reply
     }
@@ -77,34 +61,30 @@ impl Hall {
     pub(crate) fn fire_by<G: Gate>(
         &self,
         hand: &mut Hand,
-        caller: u32,
-        scratch: &mut Scratch,
         wish: Wish,
         tries: u32,
         gate: &mut G,
     ) -> Reply
         requires of { IsOf self.now.words hand.old }
-        requires mine { callers_of (view hand.old) ≡ caller ∷ [] }
+        requires mine { IsOne (view hand.old) }
         requires quiet { IsQuiet (view hand.old) }
         requires fits { WishFits (system_of self.now.words) wish }
-        requires space { HasSpaceFor (system_of self.now.words) wish.process scratch.old }
         requires room { (t : Track) → Has t (view hand.old).tracks → length (made_of t.items) < self.now.words.setting.room }
         requires tries { 0 < tries }
         ensures of { IsOf self.now.words hand.new }
         ensures quiet { IsQuiet (view hand.new) }
-        ensures replied { IsReplied (system_of self.now.words) caller wish (view hand.old) (view hand.new) result }
+        ensures replied { IsReplied (system_of self.now.words) hand.old.caller wish (view hand.old) (view hand.new) result }
         ensures tried { HasTried (system_of self.now.words) wish tries (view hand.old) (view hand.new) result }
-        ensures busy { IsBusyAfter (system_of self.now.words) self.now.words.setting.callers caller wish tries (view hand.old) (view hand.new) result }
+        ensures busy { IsBusyAfter (system_of self.now.words) self.now.words.setting.callers hand.old.caller wish tries (view hand.old) (view hand.new) result }
         ensures named { NamesProcess (system_of self.now.words) result }
         ensures gate { IsAnswered result → G.opens gate.old gate.new }
         ensures spared { ¬ IsAnswered result → gate.new ≡ gate.old }
-        ensures space { IsAsWide scratch.old scratch.new }
     {
         let network = self.words.system().network();
         let plan = network.lock_plan(wish.process);
-        if let Err((lock, holder)) = self.take_all(hand, caller, wish.process, plan, tries) {
+        if let Err((lock, holder)) = self.take_all(hand, wish.process, plan, tries) {
             return Reply::Busy { lock, holder };
         }
-        self.answer(hand, wish, plan, scratch, gate)
+        self.answer(hand, wish, plan, gate)
     }
 }

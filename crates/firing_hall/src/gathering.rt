@@ -3,10 +3,12 @@ ghost use Rattle.std.specs.Prelude.{◌≡◌, ◌≤◌, ◌<◌, ◌^◌, ℕ,
 ghost use Rattle.firing_words.specs.History.{Firing, Making};
 ghost use Rattle.firing_words.specs.Lists.{Has};
 ghost use Rattle.firing_journal.specs.Journal.{AreNumbered};
-ghost use Rattle.firing_hall.specs.Reports.{AreListsOf, all_placed, makings_of, log_of, placed};
+ghost use Rattle.firing_hall.specs.inside.Gathering.{AreListsOf, all_placed, makings_of, placed};
+ghost use Rattle.firing_hall.specs.Reports.{log_of};
 
 use conjunctive_compose::Wish;
 use firing_journal::{Asked, Entry};
+use firing_words::MAX_CALLERS;
 
 /// Puts a firing at its place; other replies have none.
 fn place_one(entries: &mut [Entry], caller: u32, item: Asked)
@@ -41,7 +43,7 @@ fn place_all(entries: &mut [Entry], caller: u32, asked: &[Asked])
 }
 
 fn place_lists(entries: &mut [Entry], lists: &[Vec<Asked>])
-    requires callers { length lists.now ≤ 64 }
+    requires callers { length lists.now ≤ MAX_CALLERS }
     requires lists { (log : List Firing) × (length log ≡ length entries.old) × AreListsOf log (map (λ v. v.items) lists.now) }
     ensures { entries.new ≡ all_placed entries.old 0 (map (λ v. v.items) lists.now) }
 {
@@ -72,7 +74,7 @@ fn fill(entries: &mut Vec<Entry>, count: usize)
 
 /// The history that these lists are of, which has so many entries.
 pub(crate) fn gather(entries: &mut Vec<Entry>, lists: &[Vec<Asked>], count: usize)
-    requires callers { length lists.now ≤ 64 }
+    requires callers { length lists.now ≤ MAX_CALLERS }
     requires lists { (log : List Firing) × (length log ≡ count) × AreListsOf log (map (λ v. v.items) lists.now) }
     requires empty { entries.old.items ≡ [] }
     requires space { count ≤ vec_capacity entries.old }

@@ -9,8 +9,10 @@ use firing_journal::Asked;
 use firing_words::Hand;
 
 impl Hall {
-    ghost use Rattle.firing_words.specs.Of.{IsOf, system_of, view};
-    ghost use Rattle.firing_hall.specs.Closing.{AreListsIn, AreTaken, IsListed, kept_in, total};
+    ghost use Rattle.firing_words.specs.Hands.{IsOf, view};
+    ghost use Rattle.firing_words.specs.Of.{system_of};
+    ghost use Rattle.firing_hall.specs.Closing.{AreListsIn};
+    ghost use Rattle.firing_hall.specs.inside.Taking.{AreTaken, IsListed, kept_in, total};
     ghost use Rattle.firing_hall.specs.Passes.{IsPassOf};
     ghost use Rattle.firing_hall.specs.declared.pass.Pass.{Pass};
 
@@ -33,7 +35,6 @@ impl Hall {
             caller,
             room: _,
             asked,
-            scratch: _,
         } = pass;
         self.words.join(main, hand);
         let at = caller as usize;
@@ -58,7 +59,6 @@ impl Hall {
             caller,
             room: _,
             asked,
-            scratch: _,
         } = pass;
         self.words.tell(&mut hand);
         let at = caller as usize;

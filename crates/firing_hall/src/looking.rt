@@ -8,7 +8,6 @@ ghost use Rattle.firing_hall.specs.declared.looking.PairLooked.{PairLooked};
 use crate::firing::Hall;
 use crate::pass::Pass;
 use firing_journal::Asked;
-use firing_words::Cell;
 
 /// What a look at a process showed: how often it fired, and its local state after that.
 #[derive(Clone, Copy, Debug, PartialEq, Eq)]
@@ -27,8 +26,9 @@ pub enum PairLooked {
 }
 
 impl Hall {
-    ghost use Rattle.firing_words.specs.Of.{system_of, view};
-    ghost use Rattle.firing_hall.specs.Looks.{HasNoted, HasNotedPair};
+    ghost use Rattle.firing_words.specs.Hands.{view};
+    ghost use Rattle.firing_words.specs.Of.{system_of};
+    ghost use Rattle.firing_hall.specs.Looks.{HasNoted, HasNotedPair, IsInOrder, IsPairInOrder};
     ghost use Rattle.firing_hall.specs.Passes.{IsPassOf};
 
     /// Looks at a process by one load, without a lock: how often it has fired, and its local state after that. The answer is no older
@@ -40,6 +40,7 @@ impl Hall {
         ensures asked { pass.new.asked.items ≡ with_kept pass.old.asked.items (kept_look process result) }
         ensures caller { pass.new.caller ≡ pass.old.caller }
         ensures noted { HasNoted process (view pass.old.hand) (view pass.new.hand) result }
+        ensures order { IsInOrder (system_of self.now.words) pass.new.asked.items result }
         ensures full { (result ≡ Looked.Full) ↔ (length pass.old.asked.items ≡ self.now.words.setting.room) }
         ensures unchanged { result ≡ Looked.Full → pass.new ≡ pass.old }
     {
@@ -47,9 +48,7 @@ impl Hall {
             return Looked::Full;
         }
         let _system = self.words.system();
-        let shown = self.words.look(&mut pass.hand, Cell::Process(process));
-        let moves = shown.moves;
-        let local = shown.content as u8;
+        let (moves, local) = self.words.look(&mut pass.hand, process);
         pass.asked.push_reserved(Asked::Seen {
             process,
             moves,
@@ -66,15 +65,15 @@ impl Hall {
         ensures asked { pass.new.asked.items ≡ with_kept pass.old.asked.items (kept_pair_look edge result) }
         ensures caller { pass.new.caller ≡ pass.old.caller }
         ensures noted { HasNotedPair edge (view pass.old.hand) (view pass.new.hand) result }
+        ensures order { IsPairInOrder (system_of self.now.words) pass.new.asked.items result }
         ensures full { (result ≡ PairLooked.Full) ↔ (length pass.old.asked.items ≡ self.now.words.setting.room) }
         ensures unchanged { result ≡ PairLooked.Full → pass.new ≡ pass.old }
     {
         if pass.asked.len() == pass.room as usize {
             return PairLooked::Full;
         }
-        let shown = self.words.look(&mut pass.hand, Cell::Edge(edge));
-        let moves = shown.moves;
-        let state = shown.content;
+        let _system = self.words.system();
+        let (moves, state) = self.words.look_pair(&mut pass.hand, edge);
         pass.asked
             .push_reserved(Asked::SeenPair { edge, moves, state });
         PairLooked::Seen { moves, state }

@@ -3,10 +3,11 @@ ghost use Rattle.std.specs.Prelude.{◌≡◌, ◌+◌, ◌^◌, ◌<◌, ◌≤
 ghost use Rattle.conjunctive_compose.specs.System.{edge_count, process_count};
 
 use crate::firing::Hall;
-use crate::parts::{Part, make_parts};
+use crate::lists::make_lists;
 use crate::pass::Pass;
 use conjunctive_compose::System;
-use firing_words::{Hand, Words};
+use firing_journal::Asked;
+use firing_words::{Hand, MAX_CALLERS, MAX_ROOM, Words};
 use std::alloc::Global;
 
 /// Why no hall was opened; the system is given back. The first that stands is told.
@@ -21,9 +22,9 @@ pub enum HallFault {
 }
 
 impl Hall {
-    ghost use Rattle.firing_words.specs.Of.{AreDealt, IsOf, system_of, view};
-    ghost use Rattle.firing_words.specs.Views.{opened_from};
-    ghost use Rattle.firing_hall.specs.Parts.{IsPartFor};
+    ghost use Rattle.firing_words.specs.Hands.{AreHands, IsFreshHand};
+    ghost use Rattle.firing_words.specs.Of.{system_of};
+    ghost use Rattle.firing_hall.specs.inside.Dealing.{HasRoom};
     ghost use Rattle.firing_hall.specs.Passes.{IsPassOf};
     ghost use Rattle.firing_hall.specs.Opening.{ArePasses, IsFaultOf, IsFresh, IsRoom, MayCall};
 
@@ -41,10 +42,10 @@ impl Hall {
         ensures passes { IfOk result (λ r. ArePasses r.0 callers r.1.items) }
         ensures of { IfOk result (λ r. All (IsPassOf r.0) r.1.items) }
     {
-        if callers == 0 || callers > 64 {
+        if callers == 0 || callers > MAX_CALLERS {
             return Err(HallFault::Callers { system });
         }
-        if room == 0 || room > 65536 {
+        if room == 0 || room > MAX_ROOM {
             return Err(HallFault::Room { system });
         }
         match Hall::open_within(alloc, system, callers, room) {
@@ -66,7 +67,7 @@ impl Hall {
         ensures hall { IfOk result (λ r. (system_of r.0.words ≡ system) × (r.0.words.setting.callers ≡ callers) × (r.0.words.setting.room ≡ room)) }
         ensures passes { IfOk result (λ r. ArePasses r.0 callers r.1.items) }
     {
-        let Ok(parts) = make_parts(alloc, &system, callers, room) else {
+        let Ok(lists) = make_lists(alloc, callers, room) else {
             return Err(system);
         };
         let Ok(mut passes) = Vec::with_capacity(alloc, callers as usize) else {
@@ -75,46 +76,44 @@ impl Hall {
         match Words::open(alloc, system, callers, room) {
             Ok((words, hands)) => {
                 let hall = Hall { words };
-                hall.hand_out(hands, parts, &mut passes);
+                hall.hand_out(hands, lists, &mut passes);
                 Ok((hall, passes))
             }
             Err(system) => Err(system),
         }
     }
 
-    /// A hand and a part make a pass.
-    fn make_pass(&self, hand: Hand, part: Part, caller: u32) -> Pass
-        requires hand { IsOf self.now.words hand × (view hand ≡ opened_from caller 1) }
-        requires part { IsPartFor (system_of self.now.words) self.now.words.setting.room part }
+    /// A hand and a list make a pass.
+    fn make_pass(&self, hand: Hand, asked: Vec<Asked>, caller: u32) -> Pass
+        requires hand { IsFreshHand self.now.words caller hand }
+        requires asked { HasRoom self.now.words.setting.room asked }
         requires below { caller < self.now.words.setting.callers }
         ensures { IsFresh self.now caller result }
     {
         let room = self.words.room();
-        let Part { asked, scratch } = part;
         Pass {
             hand,
             caller,
             room,
             asked,
-            scratch,
         }
     }
 
-    /// A pass for each caller, from its hand and a part.
-    fn hand_out(&self, mut hands: Vec<Hand>, mut parts: Vec<Part>, passes: &mut Vec<Pass>)
-        requires hands { AreDealt self.now.words self.now.words.setting.callers hands.items }
-        requires parts { All (IsPartFor (system_of self.now.words) self.now.words.setting.room) parts.items }
-        requires as_many { length parts.items ≡ self.now.words.setting.callers }
+    /// A pass for each caller, from its hand and a list.
+    fn hand_out(&self, mut hands: Vec<Hand>, mut lists: Vec<Vec<Asked>>, passes: &mut Vec<Pass>)
+        requires hands { AreHands self.now.words self.now.words.setting.callers hands.items }
+        requires lists { All (HasRoom self.now.words.setting.room) lists.items }
+        requires as_many { length lists.items ≡ self.now.words.setting.callers }
         requires empty { passes.old.items ≡ [] }
         requires space { self.now.words.setting.callers ≤ vec_capacity passes.old }
         ensures { ArePasses self.now self.now.words.setting.callers passes.new.items }
     {
         for caller in 0..self.words.callers() {
             let hand = hands.remove(0);
-            let Some(part) = parts.pop() else {
+            let Some(list) = lists.pop() else {
                 unreachable!();
             };
-            passes.push_reserved(self.make_pass(hand, part, caller));
+            passes.push_reserved(self.make_pass(hand, list, caller));
         }
     }
 }

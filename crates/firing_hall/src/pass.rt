@@ -4,7 +4,7 @@ ghost use Rattle.conjunctive_compose.specs.Firing.{WishFits};
 ghost use Rattle.firing_hall.specs.Passes.{kept_of};
 ghost use Rattle.firing_hall.specs.declared.reply.Reply.{Reply};
 
-use crate::firing::{Hall, Scratch};
+use crate::firing::Hall;
 use crate::{Gate, OpenGate, Reply};
 use conjunctive_compose::Wish;
 use firing_journal::Asked;
@@ -18,7 +18,6 @@ pub struct Pass {
     pub(crate) caller: u32,
     pub(crate) room: u32,
     pub(crate) asked: Vec<Asked>,
-    pub(crate) scratch: Scratch,
 }
 
 impl Pass {
@@ -62,7 +61,8 @@ fn asked_of(wish: Wish, reply: Reply) -> Option<Asked>
 }
 
 impl Hall {
-    ghost use Rattle.firing_words.specs.Of.{system_of, view};
+    ghost use Rattle.firing_words.specs.Hands.{view};
+    ghost use Rattle.firing_words.specs.Of.{system_of};
     ghost use Rattle.firing_hall.specs.Gates.{IsAnswered};
     ghost use Rattle.firing_hall.specs.Halls.{HasMade, NamesProcess};
     ghost use Rattle.firing_hall.specs.Passes.{IsPassOf, with_kept};
@@ -90,14 +90,7 @@ impl Hall {
         if pass.asked.len() == pass.room as usize {
             return Reply::Full;
         }
-        let reply = self.fire_by(
-            &mut pass.hand,
-            pass.caller,
-            &mut pass.scratch,
-            wish,
-            tries,
-            gate,
-        );
+        let reply = self.fire_by(&mut pass.hand, wish, tries, gate);
         match asked_of(wish, reply) {
             Some(item) => pass.asked.push_reserved(item),
             None => {}

@@ -24,7 +24,7 @@ use Rattle.firing_words.specs.Firings.{IsFiring}
 use Rattle.firing_words.specs.History.{Firing, IsLatest, Knows, made_by, moves_before, moves_in}
 use Rattle.firing_words.specs.Lists.{Has, InTurn}
 use Rattle.firing_words.specs.Notes.{Follows, IsBehind, IsTrackOf, made_of}
-use Rattle.firing_words.specs.Plays.{Mine, commits}
+use Rattle.firing_words.specs.inside.Plays.{Mine, commits}
 use Rattle.firing_words.specs.Past.{Past}
 use Rattle.firing_words.specs.Rule.{Fits, IsKept, Kept}
 use Rattle.firing_words.specs.parts.Owing.{IsOwed}

@@ -1,5 +1,5 @@
 -- A word is read under its locks.
-use Rattle.std.proofs.Common.{ℕ, ◌≡◌, ◌<◌, ⊎_elim, List, [], ◌∷◌, set, arith, refl, sym, subst}
+use Rattle.std.proofs.Common.{ℕ, ◌≡◌, ◌<◌, ◌≤◌, ⊎_elim, List, [], ◌∷◌, set, arith, refl, sym, subst}
 use Rattle.std.proofs.lemmas.List.{set-get_or}
 use mathlib.Core.Option.{none, some}
 use lib.ListN.{get_elem?}
@@ -7,14 +7,15 @@ use Rattle.atomic_table.specs.Table.{step, keeps, Allows}
 use Rattle.conjunctive_compose.specs.System.{SystemParts}
 use Rattle.conjunctive_compose.specs.Whole.{start_of}
 use Rattle.conjunctive_compose.specs.Run.{whole_after}
+use Rattle.firing_words.specs.declared.limits.TheConstants.{MAX_ENTRIES}
 use Rattle.firing_words.specs.declared.cell.Cell.{Cell}
 use Rattle.firing_words.specs.declared.cell.Reading.{Reading}
 use Rattle.firing_words.specs.declared.rule.Setting.{Setting}
 use Rattle.firing_words.specs.declared.view.View.{View}
-use Rattle.firing_words.specs.Cells.{HasContent, IsCell, cell_word}
+use Rattle.firing_words.specs.Cells.{HasContent, IsCell, cell_word, reading}
 use Rattle.firing_words.specs.History.{IsLatest, Knows, moves_in}
 use Rattle.firing_words.specs.Lists.{Has}
-use Rattle.firing_words.specs.Plays.{Mine, reading, reads}
+use Rattle.firing_words.specs.inside.Plays.{Mine, reads}
 use Rattle.firing_words.specs.Past.{Past}
 use Rattle.firing_words.specs.Rule.{Fits, IsKept, Kept}
 use Rattle.firing_words.specs.Views.{IsGuarded, knowing}
@@ -56,7 +57,7 @@ reads_allow setting slots id me i cell guards done st (p, r) size at small =
     let all = all_shown sys setting.callers setting.room p st.words st.views id l.0 i me.0 r at cell l.1 (guards l.0 l.1) done in
     let latest = latest_word sys setting.callers setting.room p st.words st.views i r cell all in
     let m = moves_in sys p.run i in
-    let few : m < 2147483648 = omega (arith, moves_few setting p st.words st.views i r) in
+    let few : m ≤ MAX_ENTRIES = omega (arith, moves_few setting p st.words st.views i r) in
     let o = reading i m latest.0 in
     let possible : Knows sys (o ∷ me.0.known) (whole_after sys (start_of sys) p.run) = λ q has. ⊎_elim
     (λ (e : o ≡ q). subst (λ (x : Reading). HasContent sys (whole_after sys (start_of sys) p.run) x.cell x.content) e latest.1)

@@ -5,6 +5,7 @@ use Rattle.conjunctive_compose.specs.System.{SystemParts}
 use Rattle.conjunctive_compose.specs.Whole.{WholeParts, IsProper, start_of}
 use Rattle.conjunctive_compose.specs.Run.{whole_after}
 use Rattle.conjunctive_compose.specs.Reply.{after_first}
+use Rattle.firing_words.specs.declared.limits.TheConstants.{HALF_WORD}
 use Rattle.firing_words.specs.declared.cell.Cell.{Cell}
 use Rattle.firing_words.specs.declared.cell.Reading.{Reading}
 use Rattle.firing_words.specs.Cells.{HasContent, is_moved}
@@ -54,7 +55,7 @@ pub record IsLatest (sys : SystemParts) (run : List Wish) (r : Reading) : Type 0
 
 -- moves and content in 32 bits each
 abbrev pub packed : ℕ → ℕ → ℕ
-packed m x = m * 4294967296 + x
+packed m x = m * HALF_WORD + x
 
 abbrev pub IsWordAfter : SystemParts → List Wish → Cell → ℕ → ℕ → Type 0
 IsWordAfter sys run i m word = (x : ℕ) × Shows sys run i m x × (word ≡ packed m x)

@@ -6,11 +6,11 @@ mod acts;
 #[cfg(test)]
 mod closes;
 #[cfg(test)]
-mod example;
-#[cfg(test)]
 mod gates;
 #[cfg(test)]
 mod halls;
+#[cfg(test)]
+mod packing;
 #[cfg(test)]
 mod rows;
 #[cfg(test)]

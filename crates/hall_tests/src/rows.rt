@@ -7,10 +7,10 @@ use std::alloc::Global;
 use std::process::Abort;
 use std::test::Fail;
 
-/// Two lamps that are switched on in turn, and off in turn. Away at the start; fired, seen, blocked and full; blocked and full without a
+/// Two lamps that are switched on in turn, and off in turn. Away and blocked at the start; fired, seen, blocked and full; blocked and full without a
 /// look; what a second caller sees of what the first one's returned call did.
 const LAMPS: &str =
-    "2*0 | 0-1:0 | 1 1 | 0 fire 0/1/0 = Away { local: 0, at: 0 }, journal 1/done/report 1/caller 0/away 0 1 0 0 0/end/
+    "2*0 | 0-1:0 | 1 2 | 0 fire 0/1/0, 0 fire 0/0/0 = Away { local: 0, at: 0 }, Blocked { neighbour: 1, at: 0 }, journal 1/done/report 1/caller 0/away 0 1 0 0 0/blocked 0 0 0 1 0/end/
 2*0 | 0-1:0 | 1 3 | 0 fire 1/0/0, 0 look 1, 0 fire 1/1/18446744073709551615, 0 fire 0/0/0, 0 look 0 = Fired { number: 0 }, Seen { moves: 1, local: 1 }, Blocked { neighbour: 0, at: 1 }, Full, Full, journal 1/entry 0 0 1 0 0/done/report 1/caller 0/fired 1 0 0 0/seen 1 1 1/blocked 1 1 18446744073709551615 0 1/end/
 2*0 | 0-1:0 | 1 2 | 0 keep 1/0/0, 0 fire 1/1/18446744073709551615, 0 fire 0/0/0 = Fired { number: 0 }, Blocked { neighbour: 0, at: 1 }, Full, journal 1/entry 0 0 1 0 0/done/report 1/caller 0/fired 1 0 0 0/blocked 1 1 18446744073709551615 0 1/end/
 2*0 | 0-1:0 | 2 2 | 0 fire 1/0/0, 1 look 1, 1 fire 0/0/0 = Fired { number: 0 }, Seen { moves: 1, local: 1 }, Fired { number: 1 }, journal 1/entry 0 0 1 0 0/entry 1 1 0 0 0/done/report 1/caller 0/fired 1 0 0 0/caller 1/seen 1 1 1/fired 0 0 0 1/end/

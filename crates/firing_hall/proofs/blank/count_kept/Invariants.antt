@@ -1,5 +1,5 @@
 use Rattle.std.proofs.Common.{◌≡◌, ◌≤◌, ◌+◌, ◌-◌, ◌^◌, ◌⊎◌, drop}
-use Rattle.firing_hall.specs.Closing.{kept_in}
+use Rattle.firing_hall.specs.inside.Taking.{kept_in}
 use Rattle.firing_hall.proofs.blank.count_kept.Given as goal
 
 abbrev pub invariant-loop-i : goal.invariant-loop-i

@@ -1,6 +1,6 @@
 use Rattle.std.proofs.Common.{◌+◌, ◌∷◌, [], length, length-append, map, arith, ◌∙◌, ap}
 use mathlib.Core.List.{map-append}
-use Rattle.firing_hall.specs.Closing.{total}
+use Rattle.firing_hall.specs.inside.Taking.{total}
 use Rattle.firing_hall.proofs.Counting.{total-push}
 use Rattle.firing_hall.proofs.blank.no_lists.Goals as goal
 

@@ -1,6 +1,6 @@
 use Rattle.std.proofs.Common.{◌≡◌, ◌≤◌, length, map}
 use Rattle.std.specs.Prelude.{vec_capacity}
-use Rattle.firing_hall.specs.Closing.{total}
+use Rattle.firing_hall.specs.inside.Taking.{total}
 use Rattle.firing_hall.proofs.blank.no_lists.Given as goal
 
 abbrev pub invariant-loop : goal.invariant-loop

@@ -1,7 +1,8 @@
 use Rattle.std.proofs.Common.{◌≡◌, ◌++◌, ℕ, List, length, map, drop, take, ap, sym, ◌∙◌, subst, arith}
 use Rattle.std.proofs.Math.Seq.{take-append_seam}
 use Rattle.firing_journal.specs.Journal.{AreNumbered}
-use Rattle.firing_hall.specs.Reports.{all_placed, log_of}
+use Rattle.firing_hall.specs.inside.Gathering.{all_placed}
+use Rattle.firing_hall.specs.Reports.{log_of}
 use Rattle.firing_journal.specs.declared.journal.Entry.{Entry}
 use Rattle.firing_hall.proofs.Gathered.{gathered, length-all_placed}
 use Rattle.firing_hall.proofs.gathering.gather.Goals as goal

@@ -1,7 +1,7 @@
 use Rattle.std.proofs.Common.{◌≡◌, ◌<◌, drop, length}
 use Rattle.firing_words.specs.History.{Making}
 use Rattle.firing_words.specs.Lists.{Has}
-use Rattle.firing_hall.specs.Reports.{makings_of, placed}
+use Rattle.firing_hall.specs.inside.Gathering.{makings_of, placed}
 use Rattle.firing_hall.proofs.gathering.place_all.Given as goal
 
 abbrev pub invariant-loop-i : goal.invariant-loop-i

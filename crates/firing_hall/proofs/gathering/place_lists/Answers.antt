@@ -1,7 +1,7 @@
 use Rattle.std.proofs.Common.{◌≡◌, [], length, map, ap, sym, ◌∙◌, subst, arith}
 use Rattle.std.proofs.lemmas.List.{get_or-map, length-map}
 use Rattle.firing_journal.specs.Report.{list_by}
-use Rattle.firing_hall.specs.Reports.{placed}
+use Rattle.firing_hall.specs.inside.Gathering.{placed}
 use Rattle.firing_hall.proofs.Gathered.{HavePlaces, length-placed, list_places, lists_step}
 use Rattle.firing_hall.proofs.gathering.place_lists.Goals as goal
 

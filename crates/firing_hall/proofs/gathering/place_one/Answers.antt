@@ -1,7 +1,7 @@
 use Rattle.std.proofs.Common.{◌∷◌, [], inl, refl, sym, subst, arith}
 use Rattle.firing_words.specs.History.{Making}
 use Rattle.firing_words.specs.Lists.{Has}
-use Rattle.firing_hall.specs.Reports.{makings_of}
+use Rattle.firing_hall.specs.inside.Gathering.{makings_of}
 use Rattle.firing_journal.specs.declared.asked.Asked.{Asked}
 use Rattle.firing_hall.proofs.gathering.place_one.Goals as goal
 

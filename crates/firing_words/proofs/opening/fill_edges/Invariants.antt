@@ -1,5 +1,5 @@
 use Rattle.conjunctive_compose.specs.System.{process_count}
-use Rattle.firing_words.specs.Opening.{AreFilled}
+use Rattle.firing_words.specs.inside.Filling.{AreFilled}
 use Rattle.firing_words.proofs.opening.fill_edges.Given as goal
 
 abbrev pub invariant-loop-e : goal.invariant-loop-e

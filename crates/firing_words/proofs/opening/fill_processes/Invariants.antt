@@ -1,4 +1,4 @@
-use Rattle.firing_words.specs.Opening.{AreFilled}
+use Rattle.firing_words.specs.inside.Filling.{AreFilled}
 use Rattle.firing_words.proofs.opening.fill_processes.Given as goal
 
 abbrev pub invariant-loop-k : goal.invariant-loop-k

@@ -1,9 +1,10 @@
-use Rattle.std.proofs.Common.{◌∙◌, List, sym, ap, subst, map}
-use Rattle.firing_words.specs.declared.cell.Reading.{Reading}
+use Rattle.std.proofs.Common.{◌∙◌, sym, ap, subst, map}
+use Rattle.interconnection.specs.Graph.{degree_of}
+use Rattle.interconnection.specs.Network.{NetworkParts}
+use Rattle.conjunctive_compose.specs.System.{SystemParts}
 use Rattle.firing_words.specs.declared.view.Track.{Track}
 use Rattle.firing_words.specs.Lists.{Has}
-use Rattle.firing_words.specs.Of.{view}
-use Rattle.firing_hall.specs.Decided.{IsJudged}
+use Rattle.firing_words.specs.Hands.{view}
 use Rattle.firing_hall.proofs.Replying.{replied_around, room_same}
 use Rattle.firing_hall.proofs.Same.{holds_as, holds_first, same_tracks}
 use Rattle.firing_hall.proofs.firing.Hall.answer.Goals as goal
@@ -17,8 +18,10 @@ reply-reply-requires-clause-mine g c = (c.requires.mine.0, ap (map (λ (t : Trac
 pub reply-reply-requires-clause-plan : goal.reply-reply-requires-clause-plan
 reply-reply-requires-clause-plan g c = λ l planned. subst (Has l) (sym c.read_star.ensures.rest.1) ((c.requires.held l).1 ((c.requires.plan.exactly l).1 planned))
 
-pub reply-reply-requires-clause-judged : goal.reply-reply-requires-clause-judged
-reply-reply-requires-clause-judged g c = subst (λ (stores : List Reading). IsJudged c.args.self.now.words.setting.system (view c.read_star.new.hand).known c.args.wish stores c.decide-answer.result) (sym c.deref-2.ensures.value) c.decide-answer.ensures.judged
+pub read_star-requires-clause-all : goal.read_star-requires-clause-all
+read_star-requires-clause-all g c =
+    let net = c.network.ensures.network ∙ ap (λ (s : SystemParts). s.network) c.system.ensures.system in
+    c.neighbours-list.ensures.degree ∙ ap (λ (n : NetworkParts). degree_of n.edges c.args.wish.process) net
 
 pub reply-reply-requires-clause-room : goal.reply-reply-requires-clause-room
 reply-reply-requires-clause-room g c = room_same (view c.args.hand.now) (view c.read_star.new.hand) _ (same_tracks _ (view c.read_star.new.hand) c.read_star.ensures.rest.0) c.requires.room

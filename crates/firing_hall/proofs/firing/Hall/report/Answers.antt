@@ -6,8 +6,8 @@ use Rattle.firing_journal.specs.Journal.{wishes_of}
 use Rattle.firing_hall.specs.Closing.{ProjectsToPaths}
 use Rattle.firing_journal.specs.Report.{IsLawful}
 use Rattle.firing_journal.specs.declared.journal.Entry.{Entry}
-use Rattle.firing_words.specs.Of.{view}
-use Rattle.firing_hall.specs.Reports.{AreListsOf}
+use Rattle.firing_words.specs.Hands.{view}
+use Rattle.firing_hall.specs.inside.Gathering.{AreListsOf}
 use Rattle.firing_hall.proofs.Counting.{log_few}
 use Rattle.firing_hall.proofs.Lawful.{lawful_of, lists_of}
 use Rattle.firing_hall.proofs.Whole.{whole_part}

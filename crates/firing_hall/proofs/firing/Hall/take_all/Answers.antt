@@ -1,5 +1,5 @@
-use Rattle.std.proofs.Common.{[], ◌∙◌, ◌++◌, length-append, arith, take}
-use Rattle.firing_words.specs.Of.{view}
+use Rattle.std.proofs.Common.{[], ◌∙◌, ◌++◌, length-append, arith, refl, sym, take}
+use Rattle.firing_words.specs.Hands.{view}
 use Rattle.firing_words.proofs.Lists.{nothing_in}
 use Rattle.firing_hall.proofs.Losing.{lost_both, lost_none, refused_after, refused_as}
 use Rattle.firing_hall.proofs.Same.{same_refl, same_trans, holds_more, next_free, holds_as, holds_all, at_has, knows_nothing}
@@ -27,10 +27,11 @@ loop-i-preserved c =
         lost_both sys k i.5.0 e.tries.0 (view c.args.hand.now) (view c.loop-i.hand) (view c.take_one.new.hand) i.5.1 e.tries.1,
         (let a = i.5.2 in let b = e.tries.2 in omega (arith, a, b, length-append i.5.0 e.tries.0)),
       ),
+      e.caller ∙ i.6,
     )
 
 pub returns-in-Some-clause-err : goal.returns-in-Some-clause-err
-returns-in-Some-clause-err c = ((c.requires.plan.exactly _).0 (at_has c.args.plan.now c.loop-i.i c.loop-i-test.true), c.in-Some.ensures.lost.0, c.in-Some.ensures.lost.1, c.release.ensures.quiet)
+returns-in-Some-clause-err c = ((c.requires.plan.exactly _).0 (at_has c.args.plan.now c.loop-i.i c.loop-i-test.true), (λ same. c.in-Some.ensures.lost.0 (same ∙ sym c.loop-i.invariant.6)), c.in-Some.ensures.lost.1, c.release.ensures.quiet)
 
 pub returns-clause-ok : goal.returns-clause-ok
 returns-clause-ok c = let i = c.loop-i.invariant in (holds_all (view c.loop-i.hand) c.args.plan.now c.loop-i.i c.loop-i-test.false i.2, i.3)
@@ -53,7 +54,10 @@ take_one-requires-clause-planned c = (c.requires.plan.exactly _).0 (at_has c.arg
 pub loop-i-init : goal.loop-i-init
 loop-i-init c =
     let v = view c.args.hand.now in
-    (c.requires.of, same_refl v, (λ l. ((λ h. nothing_in l v.held c.requires.quiet.0 h), (λ h. absurd h))), (c.requires.quiet.1, c.requires.quiet.2), c.requires.tries, ([], lost_none c.args.self.now.words.setting.system c.args.process v, omega arith))
+    (c.requires.of, same_refl v, (λ l. ((λ h. nothing_in l v.held c.requires.quiet.0 h), (λ h. absurd h))), (c.requires.quiet.1, c.requires.quiet.2), c.requires.tries, ([], lost_none c.args.self.now.words.setting.system c.args.process v, omega arith), refl)
 
 pub returns-clause-tried : goal.returns-clause-tried
 returns-clause-tried c = let tried = c.loop-i.invariant.5 in (tried.0, tried.1, omega (arith, tried.2, c.loop-i.invariant.4))
+
+pub take_one-requires-clause-mine : goal.take_one-requires-clause-mine
+take_one-requires-clause-mine c = (c.requires.mine.0, c.loop-i.invariant.1.callers ∙ c.requires.mine.1)

@@ -2,9 +2,9 @@ use Rattle.std.proofs.Common.{ℕ, ◌≢◌, ◌<◌, List, length, map, arith,
 use Rattle.std.proofs.lemmas.List.{length-map}
 use Rattle.firing_words.specs.declared.view.View.{View}
 use Rattle.firing_words.specs.Lists.{InTurn}
-use Rattle.firing_words.specs.Of.{view}
+use Rattle.firing_words.specs.Hands.{view}
 use Rattle.firing_words.specs.Views.{callers_of}
-use Rattle.firing_hall.specs.Closing.{AreTaken}
+use Rattle.firing_hall.specs.inside.Taking.{AreTaken}
 use Rattle.firing_journal.specs.declared.asked.Asked.{Asked}
 use Rattle.firing_hall.proofs.Taking.{callers_joined, last_in, map-set, not_yet, taken_more}
 use Rattle.firing_hall.proofs.firing.Hall.take_in.Goals as goal
