@@ -1,0 +1,3 @@
+-- The machine's own words: no public contract reaches them.
+pub mod Jobs
+pub mod Working
