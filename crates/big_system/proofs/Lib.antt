@@ -1,0 +1,4 @@
+pub mod Drawn
+pub mod Ends
+pub mod Summing
+pub mod Widths

@@ -1,0 +1,2 @@
+-- The machine's own words: no public contract reaches them.
+pub mod Locals
