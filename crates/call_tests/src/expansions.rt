@@ -1,10 +1,10 @@
 //! The rows of small seeds, worked out by hand from the definition of the expansion.
 
 use crate::table::{agree, expect};
-use closure_sets::{Closure, Row, full_rows};
+use closure_sets::{Closure, Row, full_rows, one_sided_rows};
 use ctl_form::Part;
 use pair_structure::Side;
-use samples::{BOUND, FAIR, PHIL, byte, closure, cut, number};
+use samples::{BOUND, FAIR, LAMP, PHIL, byte, closure, cut, number};
 use std::alloc::Global;
 use std::test::Fail;
 
@@ -80,15 +80,33 @@ fn expands_seeds(rt: HostRuntime) -> Result<(), Fail> {
     expect(&rt, rt.alloc(), EASY, rows_of_easy)
 }
 
-/// The rows of the roots at the starts.
-fn first_rows(alloc: Global, c: &Closure) -> Result<usize, Fail> {
+fn roots_of(c: &Closure) -> Row {
     let mut seed = Row::empty();
     for root in c.roots() {
         if *root < 512 {
             seed.add(*root);
         }
     }
-    Ok(full_rows(alloc, c, 0, 0, &seed)?.len())
+    seed
+}
+
+/// How many rows the roots have at the starts, and how many of one side.
+fn first_rows(alloc: Global, c: &Closure) -> Result<[usize; 2], Fail> {
+    let seed = roots_of(c);
+    let whole = full_rows(alloc, c, 0, 0, &seed)?;
+    let sided = one_sided_rows(alloc, c, 0, 0, &seed)?;
+    Ok([whole.len(), sided.len()])
+}
+
+/// Two E untils are put off, by two sides each; each row asks for a move of a or of b.
+fn sides_told(alloc: Global) -> Result<String, Fail> {
+    let c = closure(alloc, LAMP, "EF a.R; EF b.R")?;
+    Ok(format!(in alloc; "{:?}", first_rows(alloc, &c)?)?)
+}
+
+#[test]
+fn expands_along_one_side(rt: HostRuntime) -> Result<(), Fail> {
+    agree(&rt, sides_told(rt.alloc()), "[8, 4]")
 }
 
 /// What fair philosophers ask has rows at their starts; `AG !a.T` has none where a waits.
@@ -96,7 +114,11 @@ fn pairs_told(alloc: Global) -> Result<String, Fail> {
     let fair = closure(alloc, PHIL, FAIR)?;
     let quiet = closure(alloc, PHIL, "AG !a.T")?;
     let none = rows_of(alloc, &quiet, "10:5")?;
-    Ok(format!(in alloc; "{} {} {none}", fair.count(), first_rows(alloc, &fair)? > 0)?)
+    Ok(format!(in alloc;
+        "{} {} {none}",
+        fair.count(),
+        first_rows(alloc, &fair)?[0] > 0
+    )?)
 }
 
 #[test]

@@ -35,7 +35,7 @@ const FAULTS: &str = "0 | | |  = a network
 2 | 00 11 | 70*0 | 5-0:0 1-5:0 5-2:0 3-5:0 5-4:0 6-5:0 5-7:0 8-5:0 5-9:0 10-5:0 5-11:0 12-5:0 5-13:0 14-5:0 5-15:0 16-5:0 5-17:0 18-5:0 5-19:0 20-5:0 5-21:0 22-5:0 5-23:0 24-5:0 5-25:0 26-5:0 5-27:0 28-5:0 5-29:0 30-5:0 5-31:0 32-5:0 5-33:0 34-5:0 5-35:0 36-5:0 5-37:0 38-5:0 5-39:0 40-5:0 5-41:0 42-5:0 5-43:0 44-5:0 5-45:0 46-5:0 5-47:0 48-5:0 5-49:0 50-5:0 5-51:0 52-5:0 5-53:0 54-5:0 5-55:0 56-5:0 5-57:0 58-5:0 5-59:0 60-5:0 5-61:0 62-5:0 5-63:0 64-5:0 5-65:1 = edge 64 has processes of other roles than its kind";
 
 /// Rings of three philosophers, the second with its edges out of order, and a pair beside two who are alone.
-/// Of each process the neighbours, and then its plan.
+/// Of each process the neighbours, and then its plan: its edges, or a lock behind the edges.
 const NEIGHBOURS: &str =
     "1 | 00 | 3*0 | 0-1:0 1-2:0 2-0:0 = [Beside { process: 1, edge: 0, side: A }, Beside { process: 2, edge: 2, side: B }] [0, 2]; [Beside { process: 0, edge: 0, side: B }, Beside { process: 2, edge: 1, side: A }] [0, 1]; [Beside { process: 0, edge: 2, side: A }, Beside { process: 1, edge: 1, side: B }] [1, 2];
 1 | 00 | 3*0 | 2-0:0 1-2:0 0-1:0 = [Beside { process: 1, edge: 2, side: A }, Beside { process: 2, edge: 0, side: B }] [0, 2]; [Beside { process: 0, edge: 2, side: B }, Beside { process: 2, edge: 1, side: A }] [1, 2]; [Beside { process: 0, edge: 0, side: A }, Beside { process: 1, edge: 1, side: B }] [0, 1];

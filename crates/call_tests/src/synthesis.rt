@@ -4,7 +4,7 @@ use crate::table::{agree, expect};
 use ctl_form::{Part, solves};
 use deletion_rules::{Pruned, Ranks, prune};
 use pair_structure::PairStructure;
-use samples::{BOUND, FAIR, PHIL, closure, first_kind, first_role, normal, pair, role};
+use samples::{BOUND, FAIR, LAMP, PHIL, closure, first_kind, first_role, normal, pair, role};
 use std::alloc::Global;
 use std::test::Fail;
 use tableau_graph::Tableau;
@@ -19,6 +19,29 @@ AG !a.T = dead unsatisfiable";
 const CLOSED: &str = "AG !a.T = solves solves
 AF a.C; AG !a.C = dead unsatisfiable
 EF a.C; AG !a.C = dead unsatisfiable";
+
+/// Each lamp can be switched on, but who is first is alone for good: a way for each side is needed at the start, which no row of one side
+/// has.
+const EITHER_SIDE: &str = "EF a.R; EF b.R; AG (a.R -> AG !b.R); AG (b.R -> AG !a.R)";
+
+/// What is left of a part of the tableau, and what is synthesized all the same.
+fn part_told(alloc: Global) -> Result<String, Fail> {
+    let role = role(alloc, LAMP)?;
+    let closure = closure(alloc, LAMP, EITHER_SIDE)?;
+    let part = Tableau::build_part(alloc, &closure, &role, &role)?;
+    let breadth = part.breadth();
+    let left = match prune(alloc, part)? {
+        Pruned::Alive(_) => "alive",
+        Pruned::Dead => "dead",
+    };
+    let word = synthesized_word(alloc, LAMP, EITHER_SIDE)?;
+    Ok(format!(in alloc; "{breadth:?} {left} {word}")?)
+}
+
+#[test]
+fn finds_what_the_part_has_not(rt: HostRuntime) -> Result<(), Fail> {
+    agree(&rt, part_told(rt.alloc()), "OneSided dead solves")
+}
 
 fn pruned(alloc: Global, lines: &str, clauses: &str) -> Result<Pruned, Fail> {
     let role = role(alloc, lines)?;

@@ -1,10 +1,14 @@
 //! Systems: what wishes are answered, one after another from the start, and what a whole state permits.
 
-ghost use Rattle.std.specs.Prelude.{IfOk};
+ghost use Rattle.std.specs.Prelude.{◌<◌, length, IfOk, IfSome};
+ghost use Rattle.interconnection.specs.Graph.{IsBeside};
+ghost use Rattle.conjunctive_compose.specs.Firing.{WishFits};
 ghost use Rattle.conjunctive_compose.specs.Whole.{IsProper};
 
 use crate::table::{agree, expect};
 use conjunctive_compose::{System, Whole, Wish};
+use interconnection::{Beside, Edge};
+use pair_structure::{Side, local_of};
 use samples::{
     BOUND, EITHER, EITHER_TURN, FIRST, FOUR, LAMP, PRIOR, TURN, cut, long, number, system,
 };
@@ -181,6 +185,76 @@ fn pairs_told(alloc: Global, system: &System, spelled: &str) -> Result<String, F
     system.step(&mut w, wish);
     let after = pair_told(alloc, system, &w)?;
     Ok(format!(in alloc; "{before}, {after}")?)
+}
+
+/// A wish of a lamp and a state of the pair; then the state after the firing, by the pair's state alone. None where the
+/// arc leaves no such state, and Some(None) where the other lamp does not permit it.
+const NEXT_PAIRS: &str = "1/0/0 0 = Some(Some(1))
+0/0/0 0 = Some(None)
+1/1/0 0 = None
+1/0/0 4 = None
+0/0/0 1 = Some(Some(2))
+0/1/0 2 = Some(None)
+1/1/0 2 = Some(Some(3))";
+
+/// How the first edge looks to the process, if it is one of its two.
+fn first_beside(edges: &[Edge], process: u32) -> Option<Beside>
+    requires { 0 < length edges.now }
+    ensures { IfSome result (λ b. IsBeside edges.now process b) }
+{
+    let ends = edges[0];
+    if ends.a == process {
+        return Some(Beside {
+            process: ends.b,
+            edge: 0,
+            side: Side::A,
+        });
+    }
+    if ends.b == process {
+        return Some(Beside {
+            process: ends.a,
+            edge: 0,
+            side: Side::B,
+        });
+    }
+    None
+}
+
+/// What the pair of the first edge comes to.
+fn next_of(system: &System, wish: Wish, state: u64) -> Option<Option<u64>>
+    requires { WishFits system.now wish }
+{
+    let edges = system.network().edges();
+    if edges.is_empty() {
+        return None;
+    }
+    let Some(b) = first_beside(edges, wish.process) else {
+        return None;
+    };
+    let states = system.structure(edges[b.edge as usize].kind).states();
+    let arc = system.arc(wish.process, wish.arc);
+    if state >= states.len() as u64 {
+        return None;
+    }
+    if local_of(b.side, states[state as usize]) != arc.from {
+        return None;
+    }
+    Some(system.next_pair(wish, &b, state))
+}
+
+fn next_told(alloc: Global, asked: &str) -> Result<String, Fail> {
+    let system = system(alloc, LAMP, TURN, "2*0", "0-1:0")?;
+    let (spelled, state) = cut(asked, " ");
+    let wish = wish(spelled);
+    if !system.fits(wish) {
+        return Err(Fail::from("no such arc"));
+    }
+    Ok(format!(in alloc; "{:?}", next_of(&system, wish, long(state)))?)
+}
+
+#[test]
+fn tells_the_next_pair_state(rt: HostRuntime) -> Result<(), Fail> {
+    expect(&rt, rt.alloc(), NEXT_PAIRS, next_told)
 }
 
 /// The lamp of side b is switched on.

@@ -1,6 +1,6 @@
 //! Tables: each row is a question, ` = ` and the answer; and single answers. Spaces around an answer do not count.
 
-use samples::cut;
+use samples::differing;
 use std::alloc::Global;
 use std::process::Abort;
 use std::test::Fail;
@@ -21,10 +21,7 @@ pub(crate) fn expect<F: Fn(Global, &str) -> Result<String, Fail>>(
 ) -> Result<(), Fail>
     requires { F.IsAlwaysCallable told }
 {
-    for row in rows.lines() {
-        let (question, answer) = cut(row, " =");
-        let text = told(alloc, question)?;
-        assert_eq!(rt; text.as_str().trim(), answer.trim(), "{question}");
-    }
+    let differing = differing(alloc, rows, told)?;
+    assert_eq!(rt; differing.as_str(), "");
     Ok(())
 }

@@ -6,6 +6,7 @@ mod graphs;
 mod kinds;
 mod structures;
 mod systems;
+mod table;
 mod texts;
 mod words;
 
@@ -15,6 +16,7 @@ pub use kinds::{
 };
 pub use structures::{labels, moves, structure};
 pub use systems::system;
+pub use table::differing;
 pub use texts::{
     BOUND, EITHER, EITHER_TURN, FAIR, FIRST, FOUR, LAMP, LAST, PHIL, PRIOR, TURN, UNBARRED,
     to_lines, to_slashes,

@@ -15,21 +15,23 @@ use Rattle.waitfor_check.specs.Fitting.{Fits}
 use Rattle.waitfor_check.specs.Verdicts.{IsVerdict}
 use Rattle.waitfor_check.proofs.OneVerdict.{one_verdict}
 use Rattle.skeleton_tool.specs.declared.status.Status.{Status}
-use Rattle.skeleton_tool.specs.declared.status.Status.TheVariants.{Done, Usage, Refused, Unsatisfiable, Fails, ReadFault, WriteFault, OutOfMemory}
-use Rattle.skeleton_tool.specs.Answer.{SinkSeen, AnswersBoth, AnswersKinds, AnswersCommand, IsOutcome, IsPlanned, Proves, spec_grammar, solution_grammar}
+use Rattle.skeleton_tool.specs.declared.status.Status.TheVariants.{Done, Usage, Refused, Unsatisfiable, Fails, ReadFault, WriteFault, OutOfLimits, OutOfMemory}
+use Rattle.skeleton_tool.specs.Answer.{SinkSeen, AnswersBoth, AnswersKinds, IsOutcome, Proves, spec_grammar, solution_grammar}
 use Rattle.skeleton_tool.specs.Check.{AnswersCertificate, Checks, TellsVerdict, certificate_grammar, verdict_status}
-use Rattle.skeleton_tool.specs.Command.{Command, synth, prove, skel, check, replay, migrate}
-use Rattle.skeleton_tool.specs.Complete.{Decides, IsUnhindered, DecidesSpec, DecidesSynth, DecidesSolution, DecidesProve, DecidesSkel, DecidesStars, DecidesCheck, DecidesRun, DecidesReplay, DecidesMigrate}
+use Rattle.skeleton_tool.specs.Command.{Command, synth, prove, skel, check, replay, run, migrate}
+use Rattle.skeleton_tool.specs.Complete.{Decides, IsUnhindered, DecidesSpec, DecidesSynth, DecidesSolution, DecidesProve, DecidesSkel, DecidesStars, DecidesCheck, DecidesRun, DecidesReplay, DecidesNumbers, DecidesFiring, DecidesMigrate}
 use Rattle.skeleton_tool.specs.Migrate.{Migrates}
 use Rattle.skeleton_tool.specs.Reading.{Grammar, IsTold, IsUnread, ReadsAndAnswers}
 use Rattle.skeleton_tool.specs.Replay.{AnswersJournal, Replays, ReplaysJournal, ReplaysWishes, journal_grammar}
+use Rattle.skeleton_tool.specs.Run.{Runs}
 use Rattle.skeleton_tool.specs.Skel.{Skels}
 use Rattle.skeleton_tool.specs.Status.{code_of}
 use Rattle.skeleton_tool.specs.Taking.{ShelfSeen, IsUntaken}
 use Rattle.skeleton_tool.specs.Third.{AnswersThird, AnswersValue, IsSystemOf}
+use Rattle.skeleton_tool.specs.Top.{AnswersTop, IsTopped}
 use Rattle.skeleton_tool.proofs.OneSystem.{one_system}
 use Rattle.skeleton_tool.proofs.Solved.{never_fails}
-use Rattle.skeleton_tool.proofs.Told.{answers_command, both_told, never_bad, reads_told}
+use Rattle.skeleton_tool.proofs.Told.{AnswersAny, top_answers, both_told, never_bad, reads_told}
 
 never_untaken : (words : List (List ℕ)) (shelf : ShelfSeen) (sink : SinkSeen) (command : Command) (all : List (List ℕ × List ℕ)) (word file : List ℕ) (max : ℕ) (status : Status) (text : List ℕ) → IsUnhindered words shelf sink command all → IsUntaken shelf word file max status text → ⊥
 never_untaken words shelf sink command all word file max Refused text free h = free.none_long h.0.counted
@@ -39,6 +41,7 @@ never_untaken words shelf sink command all word file max Usage text free h = h
 never_untaken words shelf sink command all word file max Unsatisfiable text free h = h
 never_untaken words shelf sink command all word file max Fails text free h = h
 never_untaken words shelf sink command all word file max WriteFault text free h = h
+never_untaken words shelf sink command all word file max OutOfLimits text free h = h
 never_untaken words shelf sink command all word file max OutOfMemory text free h = h
 
 -- where nothing hinders it, a told file that is a text of a value is read
@@ -52,20 +55,21 @@ unhindered_both answers words shelf sink command all spec sol v structures statu
     both_told answers shelf all spec sol v structures status text free.told (never_unread spec_grammar words shelf sink command all spec v status text free spec_is) (never_unread (solution_grammar v) words shelf sink command all sol structures status text free sol_is) spec_is sol_is h
 
 -- a call that nothing hinders answers its command, or memory ran out
-answered : (words : List (List ℕ)) (shelf : ShelfSeen) (sink : SinkSeen) (command : Command) (all : List (List ℕ × List ℕ)) (status : Status) → IsUnhindered words shelf sink command all → IsOutcome words shelf sink status → (status ≡ OutOfMemory) ⊎ ((text : List ℕ) × AnswersCommand shelf command status text)
-answered words shelf sink command all WriteFault free (other, text, answer, rose, prefix) = absurd (free.written rose)
-answered words shelf sink command all OutOfMemory free h = inl refl
-answered words shelf sink command all Done free h = inr (h.0, answers_command words shelf Done h.0 command free.command_is h.1)
-answered words shelf sink command all Usage free h = inr (h.0, answers_command words shelf Usage h.0 command free.command_is h.1)
-answered words shelf sink command all Refused free h = inr (h.0, answers_command words shelf Refused h.0 command free.command_is h.1)
-answered words shelf sink command all Unsatisfiable free h = inr (h.0, answers_command words shelf Unsatisfiable h.0 command free.command_is h.1)
-answered words shelf sink command all Fails free h = inr (h.0, answers_command words shelf Fails h.0 command free.command_is h.1)
-answered words shelf sink command all ReadFault free h = inr (h.0, answers_command words shelf ReadFault h.0 command free.command_is h.1)
+answered : (turn : ℕ) (words : List (List ℕ)) (shelf : ShelfSeen) (sink : SinkSeen) (command : Command) (all : List (List ℕ × List ℕ)) (status : Status) → IsUnhindered words shelf sink command all → IsOutcome (AnswersTop turn words shelf) sink status → (status ≡ OutOfMemory) ⊎ ((text : List ℕ) × AnswersAny turn shelf command status text)
+answered turn words shelf sink command all WriteFault free (other, text, answer, rose, prefix) = absurd (free.written rose)
+answered turn words shelf sink command all OutOfMemory free h = inl refl
+answered turn words shelf sink command all Done free h = inr (h.0, top_answers turn words shelf Done h.0 command free.command_is h.1)
+answered turn words shelf sink command all Usage free h = inr (h.0, top_answers turn words shelf Usage h.0 command free.command_is h.1)
+answered turn words shelf sink command all Refused free h = inr (h.0, top_answers turn words shelf Refused h.0 command free.command_is h.1)
+answered turn words shelf sink command all Unsatisfiable free h = inr (h.0, top_answers turn words shelf Unsatisfiable h.0 command free.command_is h.1)
+answered turn words shelf sink command all Fails free h = inr (h.0, top_answers turn words shelf Fails h.0 command free.command_is h.1)
+answered turn words shelf sink command all ReadFault free h = inr (h.0, top_answers turn words shelf ReadFault h.0 command free.command_is h.1)
+answered turn words shelf sink command all OutOfLimits free h = inr (h.0, top_answers turn words shelf OutOfLimits h.0 command free.command_is h.1)
 
 -- what follows from each answer to the command follows from the outcome
-decided : (words : List (List ℕ)) (shelf : ShelfSeen) (sink : SinkSeen) (command : Command) (all : List (List ℕ × List ℕ)) (IsSo : ℕ → Type 0) (code : ℕ) → IsUnhindered words shelf sink command all → IsSo 8 → ((status : Status) (text : List ℕ) → AnswersCommand shelf command status text → IsSo (code_of status)) → IsPlanned words shelf sink code → IsSo code
-decided words shelf sink command all IsSo code free memory each (status, is, outcome) =
-    elim (answered words shelf sink command all status free outcome) [
+decided : (turn : ℕ) (words : List (List ℕ)) (shelf : ShelfSeen) (sink : SinkSeen) (command : Command) (all : List (List ℕ × List ℕ)) (IsSo : ℕ → Type 0) (code : ℕ) → IsUnhindered words shelf sink command all → IsSo 8 → ((status : Status) (text : List ℕ) → AnswersAny turn shelf command status text → IsSo (code_of status)) → IsTopped turn words shelf sink code → IsSo code
+decided turn words shelf sink command all IsSo code free memory each (status, is, outcome) =
+    elim (answered turn words shelf sink command all status free outcome) [
       | inl out ↦ subst IsSo (sym (is ∙ ap code_of out)) memory
       | inr (text, answer) ↦ subst IsSo (sym is) (each status text answer)
     ]
@@ -78,11 +82,12 @@ decides_kinds v Refused text h = absurd h
 decides_kinds v Fails text h = absurd h
 decides_kinds v ReadFault text h = absurd h
 decides_kinds v WriteFault text h = absurd h
+decides_kinds v OutOfLimits text h = absurd h
 decides_kinds v OutOfMemory text h = absurd h
 
-decides_synth : (words : List (List ℕ)) (shelf : ShelfSeen) (sink : SinkSeen) (code : ℕ) → IsPlanned words shelf sink code → DecidesSynth words shelf sink code
-decides_synth words shelf sink code planned files spec v free told =
-    decided words shelf sink (synth spec) files (DecidesSpec v) code free (inl refl) (λ status text h. decides_kinds v status text (reads_told spec_grammar (λ u. AnswersKinds u.roles u.kinds) shelf files spec v status text free.told (never_unread spec_grammar words shelf sink (synth spec) files spec v status text free told) told h)) planned
+decides_synth : (turn : ℕ) (words : List (List ℕ)) (shelf : ShelfSeen) (sink : SinkSeen) (code : ℕ) → IsTopped turn words shelf sink code → DecidesSynth words shelf sink code
+decides_synth turn words shelf sink code planned files spec v free told =
+    decided turn words shelf sink (synth spec) files (DecidesSpec v) code free (inl refl) (λ status text h. decides_kinds v status text (reads_told spec_grammar (λ u. AnswersKinds u.roles u.kinds) shelf files spec v status text free.told (never_unread spec_grammar words shelf sink (synth spec) files spec v status text free told) told h)) planned
 
 decides_solution : (v : SpecParts) (structures : List Structure) (status : Status) (text : List ℕ) → Proves v structures status text → DecidesSolution v structures (code_of status)
 decides_solution v structures Done text h = inr (inl (refl, h.0))
@@ -92,11 +97,12 @@ decides_solution v structures Refused text h = absurd h
 decides_solution v structures Unsatisfiable text h = absurd h
 decides_solution v structures ReadFault text h = absurd h
 decides_solution v structures WriteFault text h = absurd h
+decides_solution v structures OutOfLimits text h = absurd h
 decides_solution v structures OutOfMemory text h = absurd h
 
-decides_prove : (words : List (List ℕ)) (shelf : ShelfSeen) (sink : SinkSeen) (code : ℕ) → IsPlanned words shelf sink code → DecidesProve words shelf sink code
-decides_prove words shelf sink code planned files spec sol v structures free told sol_told =
-    decided words shelf sink (prove spec sol) files (DecidesSolution v structures) code free (inl refl) (λ status text h. decides_solution v structures status text (unhindered_both Proves words shelf sink (prove spec sol) files spec sol v structures status text free told sol_told h)) planned
+decides_prove : (turn : ℕ) (words : List (List ℕ)) (shelf : ShelfSeen) (sink : SinkSeen) (code : ℕ) → IsTopped turn words shelf sink code → DecidesProve words shelf sink code
+decides_prove turn words shelf sink code planned files spec sol v structures free told sol_told =
+    decided turn words shelf sink (prove spec sol) files (DecidesSolution v structures) code free (inl refl) (λ status text h. decides_solution v structures status text (unhindered_both Proves words shelf sink (prove spec sol) files spec sol v structures status text free told sol_told h)) planned
 
 shown : (v : SpecParts) (structures : List Structure) (status : Status) (text : List ℕ) → Solves v.roles v.kinds structures → Skels v structures status text → (code_of status ≡ 8) ⊎ (code_of status ≡ 0)
 shown v structures Done text solves h = inr refl
@@ -106,25 +112,27 @@ shown v structures Refused text solves h = absurd h
 shown v structures Unsatisfiable text solves h = absurd h
 shown v structures ReadFault text solves h = absurd h
 shown v structures WriteFault text solves h = absurd h
+shown v structures OutOfLimits text solves h = absurd h
 shown v structures OutOfMemory text solves h = absurd h
 
-decides_skel : (words : List (List ℕ)) (shelf : ShelfSeen) (sink : SinkSeen) (code : ℕ) → IsPlanned words shelf sink code → DecidesSkel words shelf sink code
-decides_skel words shelf sink code planned files spec sol v structures free told sol_told solves =
-    decided words shelf sink (skel spec sol) files (λ n. (n ≡ 8) ⊎ (n ≡ 0)) code free (inl refl) (λ status text h. shown v structures status text solves (unhindered_both Skels words shelf sink (skel spec sol) files spec sol v structures status text free told sol_told h)) planned
+decides_skel : (turn : ℕ) (words : List (List ℕ)) (shelf : ShelfSeen) (sink : SinkSeen) (code : ℕ) → IsTopped turn words shelf sink code → DecidesSkel words shelf sink code
+decides_skel turn words shelf sink code planned files spec sol v structures free told sol_told solves =
+    decided turn words shelf sink (skel spec sol) files (λ n. (n ≡ 8) ⊎ (n ≡ 0)) code free (inl refl) (λ status text h. shown v structures status text solves (unhindered_both Skels words shelf sink (skel spec sol) files spec sol v structures status text free told sol_told h)) planned
 
-decides_wishes : (sys : SystemParts) (run : List Wish) (status : Status) (text : List ℕ) → ReplaysWishes sys run status text → DecidesRun sys run (code_of status)
-decides_wishes sys run Done text h = inr (inl (refl, (h.whole, h.moves, h.leaves)))
-decides_wishes sys run Fails text h = inr (inr (refl, (h.at, h.why, h.first)))
-decides_wishes sys run Usage text h = absurd h
-decides_wishes sys run Refused text h = absurd h
-decides_wishes sys run Unsatisfiable text h = absurd h
-decides_wishes sys run ReadFault text h = absurd h
-decides_wishes sys run WriteFault text h = absurd h
-decides_wishes sys run OutOfMemory text h = absurd h
+decides_wishes : (sys : SystemParts) (wishes : List Wish) (status : Status) (text : List ℕ) → ReplaysWishes sys wishes status text → DecidesRun sys wishes (code_of status)
+decides_wishes sys wishes Done text h = inr (inl (refl, (h.whole, h.moves, h.leaves)))
+decides_wishes sys wishes Fails text h = inr (inr (refl, (h.at, h.why, h.first)))
+decides_wishes sys wishes Usage text h = absurd h
+decides_wishes sys wishes Refused text h = absurd h
+decides_wishes sys wishes Unsatisfiable text h = absurd h
+decides_wishes sys wishes ReadFault text h = absurd h
+decides_wishes sys wishes WriteFault text h = absurd h
+decides_wishes sys wishes OutOfLimits text h = absurd h
+decides_wishes sys wishes OutOfMemory text h = absurd h
 
-decides_run : (v : SpecParts) (structures : List Structure) (sys : SystemParts) (run : List Wish) (status : Status) (text : List ℕ) → Solves v.roles v.kinds structures → Replays v structures sys run status text → DecidesRun sys run (code_of status)
-decides_run v structures sys run status text solves (inl h) = decides_wishes sys run status text h.1
-decides_run v structures sys run status text solves (inr h) = absurd (never_fails v.roles v.kinds structures h.1.0 solves h.1.1)
+decides_run : (v : SpecParts) (structures : List Structure) (sys : SystemParts) (wishes : List Wish) (status : Status) (text : List ℕ) → Solves v.roles v.kinds structures → Replays v structures sys wishes status text → DecidesRun sys wishes (code_of status)
+decides_run v structures sys wishes status text solves (inl h) = decides_wishes sys wishes status text h.1
+decides_run v structures sys wishes status text solves (inr h) = absurd (never_fails v.roles v.kinds structures h.1.0 solves h.1.1)
 
 -- where the third file is told as a text of a value, this value is answered
 third_told : {V : Type 0} (grammar : SpecParts → SystemParts → Grammar V) (answers : AnswersValue V) (words : List (List ℕ)) (shelf : ShelfSeen) (sink : SinkSeen) (command : Command) (files : List (List ℕ × List ℕ)) (file : List ℕ) (v : SpecParts) (structures : List Structure) (sys : SystemParts) (value : V) (status : Status) (text : List ℕ)
@@ -145,19 +153,19 @@ decides_stars : (v : SpecParts) (structures : List Structure) (sys : SystemParts
 decides_stars v structures sys stars status text solves (inl h) = subst (λ (s : Status). DecidesStars sys stars (code_of s)) (sym h.1.status_is) (decides_verdict sys stars h.1.fits h.1.verdict h.1.is_verdict)
 decides_stars v structures sys stars status text solves (inr h) = absurd (never_fails v.roles v.kinds structures h.1.0 solves h.1.1)
 
-decides_check : (words : List (List ℕ)) (shelf : ShelfSeen) (sink : SinkSeen) (code : ℕ) → IsPlanned words shelf sink code → DecidesCheck words shelf sink code
-decides_check words shelf sink code planned files spec sol file v structures sys stars free told sol_told system file_told solves =
+decides_check : (turn : ℕ) (words : List (List ℕ)) (shelf : ShelfSeen) (sink : SinkSeen) (code : ℕ) → IsTopped turn words shelf sink code → DecidesCheck words shelf sink code
+decides_check turn words shelf sink code planned files spec sol file v structures sys stars free told sol_told system file_told solves =
     let command = check spec sol file in
-    decided words shelf sink command files (DecidesStars sys stars) code free (inl refl)
+    decided turn words shelf sink command files (DecidesStars sys stars) code free (inl refl)
     (λ status text h.
     decides_stars v structures sys stars status text solves
     (third_told certificate_grammar Checks words shelf sink command files file v structures sys stars status text free system file_told (unhindered_both (AnswersCertificate shelf file) words shelf sink command files spec sol v structures status text free told sol_told h)))
     planned
 
-decides_replay : (words : List (List ℕ)) (shelf : ShelfSeen) (sink : SinkSeen) (code : ℕ) → IsPlanned words shelf sink code → DecidesReplay words shelf sink code
-decides_replay words shelf sink code planned files spec sol file v structures sys entries free told sol_told system file_told solves =
+decides_replay : (turn : ℕ) (words : List (List ℕ)) (shelf : ShelfSeen) (sink : SinkSeen) (code : ℕ) → IsTopped turn words shelf sink code → DecidesReplay words shelf sink code
+decides_replay turn words shelf sink code planned files spec sol file v structures sys entries free told sol_told system file_told solves =
     let command = replay spec sol file in
-    decided words shelf sink command files (DecidesRun sys (wishes_of entries)) code free (inl refl)
+    decided turn words shelf sink command files (DecidesRun sys (wishes_of entries)) code free (inl refl)
     (λ status text h.
     decides_run v structures sys (wishes_of entries) status text solves
     (third_told (λ v. journal_grammar) ReplaysJournal words shelf sink command files file v structures sys entries status text free system file_told (unhindered_both (AnswersJournal shelf file) words shelf sink command files spec sol v structures status text free told sol_told h)))
@@ -171,18 +179,37 @@ migrated v Unsatisfiable text h = absurd h
 migrated v Fails text h = absurd h
 migrated v ReadFault text h = absurd h
 migrated v WriteFault text h = absurd h
+migrated v OutOfLimits text h = absurd h
 migrated v OutOfMemory text h = absurd h
 
-decides_migrate : (words : List (List ℕ)) (shelf : ShelfSeen) (sink : SinkSeen) (code : ℕ) → IsPlanned words shelf sink code → DecidesMigrate words shelf sink code
-decides_migrate words shelf sink code planned files spec v free told =
-    decided words shelf sink (migrate spec) files (λ n. (n ≡ 8) ⊎ (n ≡ 0)) code free (inl refl) (λ status text h. migrated v status text (reads_told spec_grammar Migrates shelf files spec v status text free.told (never_unread spec_grammar words shelf sink (migrate spec) files spec v status text free told) told h)) planned
+decides_migrate : (turn : ℕ) (words : List (List ℕ)) (shelf : ShelfSeen) (sink : SinkSeen) (code : ℕ) → IsTopped turn words shelf sink code → DecidesMigrate words shelf sink code
+decides_migrate turn words shelf sink code planned files spec v free told =
+    decided turn words shelf sink (migrate spec) files (λ n. (n ≡ 8) ⊎ (n ≡ 0)) code free (inl refl) (λ status text h. migrated v status text (reads_told spec_grammar Migrates shelf files spec v status text free.told (never_unread spec_grammar words shelf sink (migrate spec) files spec v status text free told) told h)) planned
 
-pub Decides-from_planned : (words : List (List ℕ)) (shelf : ShelfSeen) (sink : SinkSeen) (code : ℕ) → IsPlanned words shelf sink code → Decides words shelf sink code
-Decides-from_planned words shelf sink code planned = record {
-  decides_synth = decides_synth words shelf sink code planned;
-  decides_prove = decides_prove words shelf sink code planned;
-  decides_skel = decides_skel words shelf sink code planned;
-  decides_check = decides_check words shelf sink code planned;
-  decides_replay = decides_replay words shelf sink code planned;
-  decides_migrate = decides_migrate words shelf sink code planned;
+decides_numbers : (turn callers room seed : ℕ) (v : SpecParts) (structures : List Structure) (status : Status) (text : List ℕ) → Solves v.roles v.kinds structures → Runs turn callers room seed v structures status text → DecidesNumbers v callers room (code_of status)
+decides_numbers turn callers room seed v structures Done text solves h = inr (inl (refl, h.1.within))
+decides_numbers turn callers room seed v structures OutOfLimits text solves h = inr (inr (refl, h.1.past))
+decides_numbers turn callers room seed v structures Fails text solves h = absurd (never_fails v.roles v.kinds structures h.0 solves h.1)
+decides_numbers turn callers room seed v structures Usage text solves h = absurd h
+decides_numbers turn callers room seed v structures Refused text solves h = absurd h
+decides_numbers turn callers room seed v structures Unsatisfiable text solves h = absurd h
+decides_numbers turn callers room seed v structures ReadFault text solves h = absurd h
+decides_numbers turn callers room seed v structures WriteFault text solves h = absurd h
+decides_numbers turn callers room seed v structures OutOfMemory text solves h = absurd h
+
+pub decides_firing : (turn : ℕ) (words : List (List ℕ)) (shelf : ShelfSeen) (sink : SinkSeen) (code : ℕ) → IsTopped turn words shelf sink code → DecidesFiring words shelf sink code
+decides_firing turn words shelf sink code planned files spec sol callers room seed v structures free told sol_told solves =
+    let command = run spec sol callers room seed in
+    decided turn words shelf sink command files (DecidesNumbers v callers room) code free (inl refl)
+    (λ status text h. decides_numbers turn callers room seed v structures status text solves (unhindered_both (Runs turn callers room seed) words shelf sink command files spec sol v structures status text free told sol_told h))
+    planned
+
+pub Decides-from_topped : (turn : ℕ) (words : List (List ℕ)) (shelf : ShelfSeen) (sink : SinkSeen) (code : ℕ) → IsTopped turn words shelf sink code → Decides words shelf sink code
+Decides-from_topped turn words shelf sink code planned = record {
+  decides_synth = decides_synth turn words shelf sink code planned;
+  decides_prove = decides_prove turn words shelf sink code planned;
+  decides_skel = decides_skel turn words shelf sink code planned;
+  decides_check = decides_check turn words shelf sink code planned;
+  decides_replay = decides_replay turn words shelf sink code planned;
+  decides_migrate = decides_migrate turn words shelf sink code planned;
 }

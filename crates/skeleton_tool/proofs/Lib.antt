@@ -14,6 +14,7 @@ pub mod Told
 pub mod Verdicts
 pub mod Promised
 pub mod CommandWords
+pub mod Numbers
 pub mod OneRefusal
 pub mod OneText
 pub mod OneReplay

@@ -11,18 +11,20 @@ use Rattle.ctl_text.specs.Value.{SpecParts}
 use Rattle.waitfor_check.specs.declared.star.Star.{Star}
 use Rattle.waitfor_check.proofs.OneVerdict.{one_verdict}
 use Rattle.skeleton_tool.specs.declared.status.Status.{Status}
-use Rattle.skeleton_tool.specs.declared.status.Status.TheVariants.{Done, Usage, Refused, Unsatisfiable, Fails, ReadFault, WriteFault, OutOfMemory}
+use Rattle.skeleton_tool.specs.declared.status.Status.TheVariants.{Done, Usage, Refused, Unsatisfiable, Fails, ReadFault, WriteFault, OutOfLimits, OutOfMemory}
 use Rattle.skeleton_tool.specs.Answer.{AnswersBoth, AnswersCommand, AnswersKinds, AnswersWords, Proves, spec_grammar, solution_grammar}
 use Rattle.skeleton_tool.specs.Check.{AnswersCertificate, Checks, TellsVerdict, certificate_grammar, verdict_status, verdict_text}
-use Rattle.skeleton_tool.specs.Command.{Command, synth, prove, skel, check, replay, migrate, command_of}
+use Rattle.skeleton_tool.specs.Command.{Command, synth, prove, skel, check, replay, run, migrate, command_of}
 use Rattle.skeleton_tool.specs.OneAnswer.{AreOne, IsChoice, OneAnswer}
 use Rattle.skeleton_tool.specs.Migrate.{Migrates}
 use Rattle.skeleton_tool.specs.Reading.{Grammar, IsBad, IsRead, IsUnread, ReadsAndAnswers}
 use Rattle.skeleton_tool.specs.Refusal.{refused_text}
 use Rattle.skeleton_tool.specs.Replay.{AnswersJournal, Replays, ReplaysJournal, ReplaysWishes, journal_grammar}
+use Rattle.skeleton_tool.specs.Run.{Runs}
 use Rattle.skeleton_tool.specs.Skel.{Skels}
 use Rattle.skeleton_tool.specs.Taking.{Files, ShelfSeen, IsUntaken, IsGiven}
 use Rattle.skeleton_tool.specs.Third.{AnswersThird, AnswersValue, IsSystemOf}
+use Rattle.skeleton_tool.specs.Top.{AnswersRun, AnswersTop}
 use Rattle.skeleton_tool.proofs.OneReplay.{run_once, runs_through, stuck_once}
 use Rattle.skeleton_tool.proofs.OneRefusal.{certificate_refused_once, journal_refused_once, solution_refused_once, spec_refused_once}
 use Rattle.skeleton_tool.proofs.OneSystem.{one_system}
@@ -51,6 +53,7 @@ never_untaken shelf all word file max Usage text quiet h = h
 never_untaken shelf all word file max Unsatisfiable text quiet h = h
 never_untaken shelf all word file max Fails text quiet h = h
 never_untaken shelf all word file max WriteFault text quiet h = h
+never_untaken shelf all word file max OutOfLimits text quiet h = h
 never_untaken shelf all word file max OutOfMemory text quiet h = h
 
 -- the bytes of a grammar are refused by one text
@@ -123,20 +126,20 @@ skels_once v structures Done status text written a b = absurd b
 skels_once v structures Fails status text written a b = absurd b
 skels_once v structures status other text written a b = absurd a
 
-wishes_once : (sys : SystemParts) (run : List Wish) (one other : Status) (text written : List ℕ) → ReplaysWishes sys run one text → ReplaysWishes sys run other written → AreOne ⊥ one other text written
-wishes_once sys run Done Done text written a b = one_text ⊥ Done text written (run_once sys run text written a b)
-wishes_once sys run Done Fails text written a b = absurd (runs_through sys run b.at b.why a.whole a.moves a.leaves b.first)
-wishes_once sys run Fails Done text written a b = absurd (runs_through sys run a.at a.why b.whole b.moves b.leaves a.first)
-wishes_once sys run Fails Fails text written a b = one_text ⊥ Fails text written (stuck_once sys run text written a b)
-wishes_once sys run Done status text written a b = absurd b
-wishes_once sys run Fails status text written a b = absurd b
-wishes_once sys run status other text written a b = absurd a
+wishes_once : (sys : SystemParts) (wishes : List Wish) (one other : Status) (text written : List ℕ) → ReplaysWishes sys wishes one text → ReplaysWishes sys wishes other written → AreOne ⊥ one other text written
+wishes_once sys wishes Done Done text written a b = one_text ⊥ Done text written (run_once sys wishes text written a b)
+wishes_once sys wishes Done Fails text written a b = absurd (runs_through sys wishes b.at b.why a.whole a.moves a.leaves b.first)
+wishes_once sys wishes Fails Done text written a b = absurd (runs_through sys wishes a.at a.why b.whole b.moves b.leaves a.first)
+wishes_once sys wishes Fails Fails text written a b = one_text ⊥ Fails text written (stuck_once sys wishes text written a b)
+wishes_once sys wishes Done status text written a b = absurd b
+wishes_once sys wishes Fails status text written a b = absurd b
+wishes_once sys wishes status other text written a b = absurd a
 
-replays_once : (v : SpecParts) (structures : List Structure) (sys : SystemParts) (run : List Wish) (one other : Status) (text written : List ℕ) → Replays v structures sys run one text → Replays v structures sys run other written → AreOne ⊥ one other text written
-replays_once v structures sys run one other text written (inl a) (inl b) = wishes_once sys run one other text written a.1 b.1
-replays_once v structures sys run one other text written (inl a) (inr b) = absurd (never_fails v.roles v.kinds structures b.1.0 a.0 b.1.1)
-replays_once v structures sys run one other text written (inr a) (inl b) = absurd (never_fails v.roles v.kinds structures a.1.0 b.0 a.1.1)
-replays_once v structures sys run one other text written (inr a) (inr b) = record {
+replays_once : (v : SpecParts) (structures : List Structure) (sys : SystemParts) (wishes : List Wish) (one other : Status) (text written : List ℕ) → Replays v structures sys wishes one text → Replays v structures sys wishes other written → AreOne ⊥ one other text written
+replays_once v structures sys wishes one other text written (inl a) (inl b) = wishes_once sys wishes one other text written a.1 b.1
+replays_once v structures sys wishes one other text written (inl a) (inr b) = absurd (never_fails v.roles v.kinds structures b.1.0 a.0 b.1.1)
+replays_once v structures sys wishes one other text written (inr a) (inl b) = absurd (never_fails v.roles v.kinds structures a.1.0 b.0 a.1.1)
+replays_once v structures sys wishes one other text written (inr a) (inr b) = record {
   status = a.0 ∙ sym b.0;
   text_is = λ no. failing_once v structures text written a.1 b.1;
 }
@@ -164,27 +167,28 @@ third_once grammar answers shelf all file v structures one other text written qu
     let here = subst (λ (s : SystemParts). ReadsAndAnswers (grammar v s) (answers v structures s) shelf file other written) (one_system v structures also sys also_is system) b in
     reads_once (grammar v sys) (answers v structures sys) ⊥ shelf all file one other text written (once sys) quiet (λ value read. each sys value) a here
 
-both_once : (answers : SpecParts → List Structure → Status → List ℕ → Type 0) (shelf : ShelfSeen) (all : List (List ℕ × List ℕ)) (spec sol : List ℕ) (one other : Status) (text written : List ℕ)
-    → IsQuiet shelf all → ((v : SpecParts) (structures : List Structure) → answers v structures one text → answers v structures other written → AreOne ⊥ one other text written) → AnswersBoth answers shelf spec sol one text → AnswersBoth answers shelf spec sol other written
-    → AreOne ⊥ one other text written
-both_once answers shelf all spec sol one other text written quiet each a b =
-    reads_once spec_grammar (λ v. ReadsAndAnswers (solution_grammar v) (answers v) shelf sol) ⊥ shelf all spec one other text written (spec_refused_once spec_grammar.word) quiet
-    (λ v read. reads_once (solution_grammar v) (answers v) ⊥ shelf all sol one other text written (solution_refused_once v.roles v.kinds (solution_grammar v).word) quiet (λ structures also. each v structures))
+both_once : (answers : SpecParts → List Structure → Status → List ℕ → Type 0) (choice : Type 0) (shelf : ShelfSeen) (all : List (List ℕ × List ℕ)) (spec sol : List ℕ) (one other : Status) (text written : List ℕ)
+    → IsQuiet shelf all → ((v : SpecParts) (structures : List Structure) → answers v structures one text → answers v structures other written → AreOne choice one other text written) → AnswersBoth answers shelf spec sol one text → AnswersBoth answers shelf spec sol other written
+    → AreOne choice one other text written
+both_once answers choice shelf all spec sol one other text written quiet each a b =
+    reads_once spec_grammar (λ v. ReadsAndAnswers (solution_grammar v) (answers v) shelf sol) choice shelf all spec one other text written (spec_refused_once spec_grammar.word) quiet
+    (λ v read. reads_once (solution_grammar v) (answers v) choice shelf all sol one other text written (solution_refused_once v.roles v.kinds (solution_grammar v).word) quiet (λ structures also. each v structures))
     a b
 
 command_once : (shelf : ShelfSeen) (all : List (List ℕ × List ℕ)) (command : Command) (one other : Status) (text written : List ℕ) → IsQuiet shelf all → AnswersCommand shelf command one text → AnswersCommand shelf command other written → AreOne (IsChoice (Some command) one) one other text written
 command_once shelf all (synth spec) one other text written quiet a b =
     reads_once spec_grammar (λ v. AnswersKinds v.roles v.kinds) (IsChoice (Some (synth spec)) one) shelf all spec one other text written (spec_refused_once spec_grammar.word) quiet (λ v read. kinds_once v spec one other text written) a b
-command_once shelf all (prove spec sol) one other text written quiet a b = both_once Proves shelf all spec sol one other text written quiet (λ v structures. proves_once v structures one other text written) a b
-command_once shelf all (skel spec sol) one other text written quiet a b = both_once Skels shelf all spec sol one other text written quiet (λ v structures. skels_once v structures one other text written) a b
+command_once shelf all (prove spec sol) one other text written quiet a b = both_once Proves ⊥ shelf all spec sol one other text written quiet (λ v structures. proves_once v structures one other text written) a b
+command_once shelf all (skel spec sol) one other text written quiet a b = both_once Skels ⊥ shelf all spec sol one other text written quiet (λ v structures. skels_once v structures one other text written) a b
 command_once shelf all (check spec sol file) one other text written quiet a b =
-    both_once (AnswersCertificate shelf file) shelf all spec sol one other text written quiet
+    both_once (AnswersCertificate shelf file) ⊥ shelf all spec sol one other text written quiet
     (λ v structures. third_once certificate_grammar Checks shelf all file v structures one other text written quiet (λ sys. certificate_refused_once v sys (certificate_grammar v sys).word) (λ sys stars. checks_once v structures sys stars one other text written))
     a b
 command_once shelf all (replay spec sol file) one other text written quiet a b =
-    both_once (AnswersJournal shelf file) shelf all spec sol one other text written quiet
+    both_once (AnswersJournal shelf file) ⊥ shelf all spec sol one other text written quiet
     (λ v structures. third_once (λ v. journal_grammar) ReplaysJournal shelf all file v structures one other text written quiet (λ sys. journal_refused_once sys (journal_grammar sys).word) (λ sys entries. replays_once v structures sys (wishes_of entries) one other text written))
     a b
+command_once shelf all (run spec sol callers room seed) one other text written quiet a b = absurd a
 command_once shelf all (migrate spec) one other text written quiet a b = reads_once spec_grammar Migrates ⊥ shelf all spec one other text written (spec_refused_once spec_grammar.word) quiet (λ v read. migrates_once v one other text written) a b
 
 same_command : (words : List (List ℕ)) (one other : Command) → command_of words ≡ Some one → command_of words ≡ Some other → other ≡ one
@@ -201,5 +205,45 @@ words_once words shelf all one other text written quiet (inr (command, is, a)) (
     let here : AnswersCommand shelf command other written = subst (λ c. AnswersCommand shelf c other written) (same_command words command also is also_is) b in
     subst (λ c. AreOne (IsChoice c one) one other text written) (sym is) (command_once shelf all command one other text written quiet a here)
 
+runs_once : (turn callers room seed : ℕ) (v : SpecParts) (structures : List Structure) (spec sol : List ℕ) (one other : Status) (text written : List ℕ) → Runs turn callers room seed v structures one text → Runs turn callers room seed v structures other written → AreOne (IsChoice (Some (run spec sol callers room seed)) one) one other text written
+runs_once turn callers room seed v structures spec sol Done Done text written a b = record { status = refl; text_is = λ no. absurd (no tt) }
+runs_once turn callers room seed v structures spec sol Done OutOfLimits text written a b = absurd (b.1.past a.1.within)
+runs_once turn callers room seed v structures spec sol Done Fails text written a b = absurd (never_fails v.roles v.kinds structures b.0 a.0 b.1)
+runs_once turn callers room seed v structures spec sol OutOfLimits Done text written a b = absurd (a.1.past b.1.within)
+runs_once turn callers room seed v structures spec sol OutOfLimits OutOfLimits text written a b = one_text ⊥ OutOfLimits text written (a.1.text_is ∙ sym b.1.text_is)
+runs_once turn callers room seed v structures spec sol OutOfLimits Fails text written a b = absurd (never_fails v.roles v.kinds structures b.0 a.0 b.1)
+runs_once turn callers room seed v structures spec sol Fails Done text written a b = absurd (never_fails v.roles v.kinds structures a.0 b.0 a.1)
+runs_once turn callers room seed v structures spec sol Fails OutOfLimits text written a b = absurd (never_fails v.roles v.kinds structures a.0 b.0 a.1)
+runs_once turn callers room seed v structures spec sol Fails Fails text written a b = one_text ⊥ Fails text written (failing_once v structures text written a b)
+runs_once turn callers room seed v structures spec sol Done status text written a b = absurd b
+runs_once turn callers room seed v structures spec sol OutOfLimits status text written a b = absurd b
+runs_once turn callers room seed v structures spec sol Fails status text written a b = absurd b
+runs_once turn callers room seed v structures spec sol status other text written a b = absurd a
+
+-- a run is none of the commands that `plan` answers
+never_plain : (words : List (List ℕ)) (shelf : ShelfSeen) (spec sol : List ℕ) (callers room seed : ℕ) (status : Status) (text : List ℕ) → command_of words ≡ Some (run spec sol callers room seed) → AnswersWords words shelf status text → ⊥
+never_plain words shelf spec sol callers room seed status text is (inl h) = never_named words (run spec sol callers room seed) h.0 is
+never_plain words shelf spec sol callers room seed status text is (inr (command, also, h)) = subst (λ c. AnswersCommand shelf c status text) (same_command words (run spec sol callers room seed) command is also) h
+
+reports_once : (turn : ℕ) (words : List (List ℕ)) (shelf : ShelfSeen) (all : List (List ℕ × List ℕ)) (one other : Status) (text written : List ℕ) (spec sol : List ℕ) (callers room seed : ℕ) → IsQuiet shelf all → command_of words ≡ Some (run spec sol callers room seed)
+    → AnswersBoth (Runs turn callers room seed) shelf spec sol one text → AnswersBoth (Runs turn callers room seed) shelf spec sol other written → AreOne (IsChoice (command_of words) one) one other text written
+reports_once turn words shelf all one other text written spec sol callers room seed quiet is a b =
+    let choice = IsChoice (Some (run spec sol callers room seed)) one in
+    subst (λ c. AreOne (IsChoice c one) one other text written) (sym is) (both_once (Runs turn callers room seed) choice shelf all spec sol one other text written quiet (λ v structures. runs_once turn callers room seed v structures spec sol one other text written) a b)
+
+-- what a run is answered, over its command
+abbrev AnswersAs : ℕ → ShelfSeen → Command → Status → List ℕ → Type 0
+AnswersAs turn shelf (run spec sol callers room seed) status text = AnswersBoth (Runs turn callers room seed) shelf spec sol status text
+AnswersAs turn shelf command status text = ⊥
+
+tops_once : (turn : ℕ) (words : List (List ℕ)) (shelf : ShelfSeen) (all : List (List ℕ × List ℕ)) (one other : Status) (text written : List ℕ) → IsQuiet shelf all → AnswersTop turn words shelf one text → AnswersTop turn words shelf other written → AreOne (IsChoice (command_of words) one) one other text written
+tops_once turn words shelf all one other text written quiet (inl a) (inl b) =
+    let same = same_command words (run a.spec a.sol a.callers a.room a.seed) (run b.spec b.sol b.callers b.room b.seed) a.command_is b.command_is in
+    let here = subst (λ c. AnswersAs turn shelf c other written) same b.answer in
+    reports_once turn words shelf all one other text written a.spec a.sol a.callers a.room a.seed quiet a.command_is a.answer here
+tops_once turn words shelf all one other text written quiet (inl a) (inr b) = absurd (never_plain words shelf a.spec a.sol a.callers a.room a.seed other written a.command_is b)
+tops_once turn words shelf all one other text written quiet (inr a) (inl b) = absurd (never_plain words shelf b.spec b.sol b.callers b.room b.seed one text b.command_is a)
+tops_once turn words shelf all one other text written quiet (inr a) (inr b) = words_once words shelf all one other text written quiet a b
+
 pub one_answer : OneAnswer
-one_answer words shelf files one other text written told no_fault none_long a b = words_once words shelf files one other text written (record { told = told; no_fault = no_fault; none_long = none_long }) a b
+one_answer turn words shelf files one other text written told no_fault none_long a b = tops_once turn words shelf files one other text written (record { told = told; no_fault = no_fault; none_long = none_long }) a b

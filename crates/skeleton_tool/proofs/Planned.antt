@@ -1,5 +1,5 @@
 -- An answer is put whole, or a prefix of it is; no answer has the status of a write fault or of want of memory.
-use Rattle.std.proofs.Common.{ℕ, ◌≡◌, inl, inr, List, sym, subst}
+use Rattle.std.proofs.Common.{ℕ, ◌≡◌, inl, inr, List, Some, sym, subst}
 use Rattle.pair_structure.specs.Role.{RoleParts}
 use Rattle.pair_structure.specs.Structure.{Structure}
 use Rattle.conjunctive_compose.specs.declared.wish.Wish.{Wish}
@@ -12,16 +12,18 @@ use Rattle.waitfor_check.specs.declared.verdict.Verdict.TheVariants.{Accepted, N
 use Rattle.ctl_form.specs.declared.pair_spec.PairSpec.{PairSpec}
 use Rattle.ctl_text.specs.Value.{SpecParts}
 use Rattle.skeleton_tool.specs.declared.status.Status.{Status}
-use Rattle.skeleton_tool.specs.declared.status.Status.TheVariants.{Done, Usage, Refused, Unsatisfiable, Fails, ReadFault, WriteFault, OutOfMemory}
+use Rattle.skeleton_tool.specs.declared.status.Status.TheVariants.{Done, Usage, Refused, Unsatisfiable, Fails, ReadFault, WriteFault, OutOfLimits, OutOfMemory}
 use Rattle.skeleton_tool.specs.Answer.{AnswersBoth, AnswersCommand, AnswersKinds, AnswersWords, IsOutcome, IsSaid, Proves, SinkSeen, spec_grammar, solution_grammar}
 use Rattle.skeleton_tool.specs.Check.{AnswersCertificate, Checks, TellsVerdict, certificate_grammar, verdict_status}
-use Rattle.skeleton_tool.specs.Command.{Command, synth, prove, skel, check, replay, migrate}
+use Rattle.skeleton_tool.specs.Command.{Command, synth, prove, skel, check, replay, run, migrate, command_of}
 use Rattle.skeleton_tool.specs.Migrate.{Migrates}
 use Rattle.skeleton_tool.specs.Reading.{Grammar, IsUnread, ReadsAndAnswers}
 use Rattle.skeleton_tool.specs.Replay.{AnswersJournal, Replays, ReplaysJournal, ReplaysWishes, journal_grammar}
+use Rattle.skeleton_tool.specs.Run.{Runs}
 use Rattle.skeleton_tool.specs.Skel.{Skels}
 use Rattle.skeleton_tool.specs.Taking.{ShelfSeen, IsUntaken}
 use Rattle.skeleton_tool.specs.Third.{AnswersThird, AnswersValue}
+use Rattle.skeleton_tool.specs.Top.{AnswersTop}
 
 -- the status of a call that wrote no answer
 abbrev IsUnwritten : Status → Type 0
@@ -60,14 +62,14 @@ skels v structures WriteFault text unwritten h = h
 skels v structures OutOfMemory text unwritten h = h
 skels v structures status text unwritten h = unwritten
 
-replays_wishes : (sys : SystemParts) (run : List Wish) (status : Status) (text : List ℕ) → IsUnwritten status → ReplaysWishes sys run status text → ⊥
-replays_wishes sys run WriteFault text unwritten h = h
-replays_wishes sys run OutOfMemory text unwritten h = h
-replays_wishes sys run status text unwritten h = unwritten
+replays_wishes : (sys : SystemParts) (wishes : List Wish) (status : Status) (text : List ℕ) → IsUnwritten status → ReplaysWishes sys wishes status text → ⊥
+replays_wishes sys wishes WriteFault text unwritten h = h
+replays_wishes sys wishes OutOfMemory text unwritten h = h
+replays_wishes sys wishes status text unwritten h = unwritten
 
-replays : (v : SpecParts) (structures : List Structure) (sys : SystemParts) (run : List Wish) (status : Status) (text : List ℕ) → IsUnwritten status → Replays v structures sys run status text → ⊥
-replays v structures sys run status text unwritten (inl h) = replays_wishes sys run status text unwritten h.1
-replays v structures sys run status text unwritten (inr h) = not_of status Fails unwritten h.0
+replays : (v : SpecParts) (structures : List Structure) (sys : SystemParts) (wishes : List Wish) (status : Status) (text : List ℕ) → IsUnwritten status → Replays v structures sys wishes status text → ⊥
+replays v structures sys wishes status text unwritten (inl h) = replays_wishes sys wishes status text unwritten h.1
+replays v structures sys wishes status text unwritten (inr h) = not_of status Fails unwritten h.0
 
 verdict : (sys : SystemParts) (stars : List Star) (status : Status) (text : List ℕ) → IsUnwritten status → TellsVerdict sys stars status text → ⊥
 verdict sys stars status text unwritten h = no_verdict h.verdict (not_of status (verdict_status h.verdict) unwritten h.status_is)
@@ -105,19 +107,54 @@ unwritten_answer shelf (prove spec sol) status text unwritten h = both Proves sh
 unwritten_answer shelf (skel spec sol) status text unwritten h = both Skels shelf spec sol status text unwritten (λ v structures. skels v structures status text unwritten) h
 unwritten_answer shelf (check spec sol file) status text unwritten h = both (AnswersCertificate shelf file) shelf spec sol status text unwritten (λ v structures. third certificate_grammar Checks shelf file v structures status text unwritten (λ sys stars. checks v structures sys stars status text unwritten)) h
 unwritten_answer shelf (replay spec sol file) status text unwritten h = both (AnswersJournal shelf file) shelf spec sol status text unwritten (λ v structures. third (λ v. journal_grammar) ReplaysJournal shelf file v structures status text unwritten (λ sys entries. replays v structures sys (wishes_of entries) status text unwritten)) h
+unwritten_answer shelf (run spec sol callers room seed) status text unwritten h = h
 unwritten_answer shelf (migrate spec) status text unwritten h = reads spec_grammar Migrates shelf spec status text unwritten (λ v. migrates v status text unwritten) h
 
 unwritten_words : (words : List (List ℕ)) (shelf : ShelfSeen) (status : Status) (text : List ℕ) → IsUnwritten status → AnswersWords words shelf status text → ⊥
 unwritten_words words shelf status text unwritten (inl h) = not_of status Usage unwritten h.1
 unwritten_words words shelf status text unwritten (inr h) = unwritten_answer shelf h.0 status text unwritten h.2
 
+runs : (turn callers room seed : ℕ) (v : SpecParts) (structures : List Structure) (status : Status) (text : List ℕ) → IsUnwritten status → Runs turn callers room seed v structures status text → ⊥
+runs turn callers room seed v structures WriteFault text unwritten h = h
+runs turn callers room seed v structures OutOfMemory text unwritten h = h
+runs turn callers room seed v structures status text unwritten h = unwritten
+
+unwritten_run : (turn callers room seed : ℕ) (shelf : ShelfSeen) (spec sol : List ℕ) (status : Status) (text : List ℕ) → IsUnwritten status → AnswersBoth (Runs turn callers room seed) shelf spec sol status text → ⊥
+unwritten_run turn callers room seed shelf spec sol status text unwritten h = both (Runs turn callers room seed) shelf spec sol status text unwritten (λ v structures. runs turn callers room seed v structures status text unwritten) h
+
+-- none of these answers has such a status
+abbrev NeverUnwritten : (Status → List ℕ → Type 0) → Type 0
+NeverUnwritten answers = (status : Status) (text : List ℕ) → IsUnwritten status → answers status text → ⊥
+
 -- an answer that was put whole
-put_whole : (words : List (List ℕ)) (shelf : ShelfSeen) (sink : SinkSeen) (status : Status) (text : List ℕ) → AnswersWords words shelf status text → Appends sink.before sink.after text → IsOutcome words shelf sink status
-put_whole words shelf sink WriteFault text answer appends = absurd (unwritten_words words shelf WriteFault text tt answer)
-put_whole words shelf sink OutOfMemory text answer appends = absurd (unwritten_words words shelf OutOfMemory text tt answer)
-put_whole words shelf sink status text answer appends = (text, answer, appends)
+put_whole : (answers : Status → List ℕ → Type 0) (sink : SinkSeen) (status : Status) (text : List ℕ) → NeverUnwritten answers → answers status text → Appends sink.before sink.after text → IsOutcome answers sink status
+put_whole answers sink WriteFault text never answer appends = absurd (never WriteFault text tt answer)
+put_whole answers sink OutOfMemory text never answer appends = absurd (never OutOfMemory text tt answer)
+put_whole answers sink status text never answer appends = (text, answer, appends)
 
 -- an answer that was put, whole or in part
-pub put_answer : (words : List (List ℕ)) (shelf : ShelfSeen) (sink : SinkSeen) (status said : Status) (text put : List ℕ) → AnswersWords words shelf status text → put ≡ text → IsSaid status put sink said → IsOutcome words shelf sink said
-put_answer words shelf sink status said text put answer same (inl h) = subst (IsOutcome words shelf sink) (sym h.0) (put_whole words shelf sink status text answer (rw same at h.1))
-put_answer words shelf sink status said text put answer same (inr h) = subst (IsOutcome words shelf sink) (sym h.0) (status, text, answer, h.1, rw same at h.2)
+put_answer : (answers : Status → List ℕ → Type 0) (sink : SinkSeen) (status said : Status) (text put : List ℕ) → NeverUnwritten answers → answers status text → put ≡ text → IsSaid status put sink said → IsOutcome answers sink said
+put_answer answers sink status said text put never answer same (inl h) = subst (IsOutcome answers sink) (sym h.0) (put_whole answers sink status text never answer (rw same at h.1))
+put_answer answers sink status said text put never answer same (inr h) = subst (IsOutcome answers sink) (sym h.0) (status, text, answer, h.1, rw same at h.2)
+
+pub put_words : (words : List (List ℕ)) (shelf : ShelfSeen) (sink : SinkSeen) (status said : Status) (text put : List ℕ) → AnswersWords words shelf status text → put ≡ text → IsSaid status put sink said → IsOutcome (AnswersWords words shelf) sink said
+put_words words shelf sink status said text put answer same h = put_answer (AnswersWords words shelf) sink status said text put (unwritten_words words shelf) answer same h
+
+pub put_run : (turn callers room seed : ℕ) (shelf : ShelfSeen) (spec sol : List ℕ) (sink : SinkSeen) (status said : Status) (text put : List ℕ) → AnswersBoth (Runs turn callers room seed) shelf spec sol status text → put ≡ text → IsSaid status put sink said → IsOutcome (AnswersBoth (Runs turn callers room seed) shelf spec sol) sink said
+put_run turn callers room seed shelf spec sol sink status said text put answer same h = put_answer (AnswersBoth (Runs turn callers room seed) shelf spec sol) sink status said text put (unwritten_run turn callers room seed shelf spec sol) answer same h
+
+outcome_is : (one other : Status → List ℕ → Type 0) (sink : SinkSeen) (status : Status) → ((s : Status) (t : List ℕ) → one s t → other s t) → IsOutcome one sink status → IsOutcome other sink status
+outcome_is one other sink WriteFault each h = (h.0, h.1, each h.0 h.1 h.2, h.3, h.4)
+outcome_is one other sink OutOfMemory each h = h
+outcome_is one other sink status each h = (h.0, each status h.0 h.1, h.2)
+
+-- what `plan` answers is what `top` answers
+pub words_top : (turn : ℕ) (words : List (List ℕ)) (shelf : ShelfSeen) (sink : SinkSeen) (status : Status) → IsOutcome (AnswersWords words shelf) sink status → IsOutcome (AnswersTop turn words shelf) sink status
+words_top turn words shelf sink status h = outcome_is (AnswersWords words shelf) (AnswersTop turn words shelf) sink status (λ s t. inr) h
+
+-- what a run is answered is what `top` answers
+pub run_top : (turn callers room seed : ℕ) (words : List (List ℕ)) (shelf : ShelfSeen) (spec sol : List ℕ) (sink : SinkSeen) (status : Status) → command_of words ≡ Some (run spec sol callers room seed) → IsOutcome (AnswersBoth (Runs turn callers room seed) shelf spec sol) sink status → IsOutcome (AnswersTop turn words shelf) sink status
+run_top turn callers room seed words shelf spec sol sink status is h =
+    outcome_is (AnswersBoth (Runs turn callers room seed) shelf spec sol) (AnswersTop turn words shelf) sink status
+    (λ s t answer. inl (record { spec = spec; sol = sol; callers = callers; room = room; seed = seed; command_is = is; answer = answer }))
+    h

@@ -4,7 +4,7 @@ use Rattle.std.proofs.Math.Nat.{min-le_left, min-le_right, le-min}
 use Rattle.edge_io.specs.Counts.{Rose, next_count}
 use Rattle.edge_io.specs.Told.{HasLonger}
 use Rattle.skeleton_tool.specs.declared.status.Status.{Status}
-use Rattle.skeleton_tool.specs.declared.status.Status.TheVariants.{Done, Usage, Refused, Unsatisfiable, Fails, ReadFault, WriteFault, OutOfMemory}
+use Rattle.skeleton_tool.specs.declared.status.Status.TheVariants.{Done, Usage, Refused, Unsatisfiable, Fails, ReadFault, WriteFault, OutOfLimits, OutOfMemory}
 use Rattle.skeleton_tool.specs.declared.stop.Stop.{Stop}
 use Rattle.skeleton_tool.specs.declared.stop.Stop.TheVariants.{Answered, Memory}
 use Rattle.skeleton_tool.specs.Reading.{Grammar, IsBad, IsRead, IsUnread, ReadsAndAnswers}
@@ -33,6 +33,7 @@ untaken_since files faults longs may_ask old mid new word file max Usage text ke
 untaken_since files faults longs may_ask old mid new word file max Unsatisfiable text kept h = absurd h
 untaken_since files faults longs may_ask old mid new word file max Fails text kept h = absurd h
 untaken_since files faults longs may_ask old mid new word file max WriteFault text kept h = absurd h
+untaken_since files faults longs may_ask old mid new word file max OutOfLimits text kept h = absurd h
 untaken_since files faults longs may_ask old mid new word file max OutOfMemory text kept h = absurd h
 
 unread_since : {A V : Type 0} (grammar : Grammar V) (files : A → Files) (faults longs : A → ℕ) (may_ask : A → List ℕ → ℕ → Type 0) (old mid new : A) (file : List ℕ) (status : Status) (text : List ℕ)

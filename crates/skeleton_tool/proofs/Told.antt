@@ -5,9 +5,11 @@ use Rattle.pair_structure.specs.Structure.{Structure}
 use Rattle.ctl_text.specs.Value.{SpecParts}
 use Rattle.skeleton_tool.specs.declared.status.Status.{Status}
 use Rattle.skeleton_tool.specs.Answer.{AnswersBoth, AnswersCommand, AnswersWords, spec_grammar, solution_grammar}
-use Rattle.skeleton_tool.specs.Command.{Command, command_of}
+use Rattle.skeleton_tool.specs.Command.{Command, synth, prove, skel, check, replay, run, migrate, command_of}
 use Rattle.skeleton_tool.specs.Reading.{Grammar, IsBad, IsRead, IsTold, IsUnread, ReadsAndAnswers}
+use Rattle.skeleton_tool.specs.Run.{Runs}
 use Rattle.skeleton_tool.specs.Taking.{Files, ShelfSeen}
+use Rattle.skeleton_tool.specs.Top.{AnswersTop}
 
 some_same : {A : Type 0} (x y : A) → Some x ≡ Some y → x ≡ y
 some_same x y e = cc
@@ -42,6 +44,24 @@ both_told answers shelf all spec sol v structures status text told never_spec ne
     reads_told (solution_grammar v) (answers v) shelf all sol structures status text told never_sol sol_is behind
 
 -- the command that the words are is answered
-pub answers_command : (words : List (List ℕ)) (shelf : ShelfSeen) (status : Status) (text : List ℕ) (command : Command) → command_of words ≡ Some command → AnswersWords words shelf status text → AnswersCommand shelf command status text
+answers_command : (words : List (List ℕ)) (shelf : ShelfSeen) (status : Status) (text : List ℕ) (command : Command) → command_of words ≡ Some command → AnswersWords words shelf status text → AnswersCommand shelf command status text
 answers_command words shelf status text command is (inl h) = absurd (let e : None ≡ Some command = sym h.0 ∙ is in cc)
 answers_command words shelf status text command is (inr h) = subst (λ c. AnswersCommand shelf c status text) (some_same h.0 command (sym h.1 ∙ is)) h.2
+
+-- what `top` answers to a command
+abbrev pub AnswersAny : ℕ → ShelfSeen → Command → Status → List ℕ → Type 0
+AnswersAny turn shelf (run spec sol callers room seed) status text = AnswersBoth (Runs turn callers room seed) shelf spec sol status text
+AnswersAny turn shelf command status text = AnswersCommand shelf command status text
+
+any_command : (turn : ℕ) (shelf : ShelfSeen) (command : Command) (status : Status) (text : List ℕ) → AnswersCommand shelf command status text → AnswersAny turn shelf command status text
+any_command turn shelf (synth spec) status text h = h
+any_command turn shelf (prove spec sol) status text h = h
+any_command turn shelf (skel spec sol) status text h = h
+any_command turn shelf (check spec sol file) status text h = h
+any_command turn shelf (replay spec sol file) status text h = h
+any_command turn shelf (run spec sol callers room seed) status text h = absurd h
+any_command turn shelf (migrate spec) status text h = h
+
+pub top_answers : (turn : ℕ) (words : List (List ℕ)) (shelf : ShelfSeen) (status : Status) (text : List ℕ) (command : Command) → command_of words ≡ Some command → AnswersTop turn words shelf status text → AnswersAny turn shelf command status text
+top_answers turn words shelf status text command is (inl h) = subst (λ c. AnswersAny turn shelf c status text) (some_same (run h.spec h.sol h.callers h.room h.seed) command (sym h.command_is ∙ is)) h.answer
+top_answers turn words shelf status text command is (inr h) = any_command turn shelf command status text (answers_command words shelf status text command is h)

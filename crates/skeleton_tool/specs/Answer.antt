@@ -12,7 +12,7 @@ use Rattle.ctl_text.specs.Text.{IsSpecText, IsRefused}
 use Rattle.solution_text.specs.Text.{IsSolutionText, IsRefused as IsSolutionRefused}
 use Rattle.skeleton_tool.specs.declared.status.Status.{Status}
 use Rattle.skeleton_tool.specs.declared.status.Status.TheVariants.{Done, Usage, Unsatisfiable, Fails, WriteFault, OutOfMemory}
-use Rattle.skeleton_tool.specs.Command.{Command, synth, prove, skel, check, replay, migrate, command_of, usage_text, spec_limit, solution_limit}
+use Rattle.skeleton_tool.specs.Command.{Command, synth, prove, skel, check, replay, run, migrate, command_of, usage_text, spec_limit, solution_limit}
 use Rattle.skeleton_tool.specs.Status.{code_of}
 use Rattle.skeleton_tool.specs.Check.{AnswersCertificate}
 use Rattle.skeleton_tool.specs.Failing.{NamesFailing}
@@ -82,13 +82,14 @@ NotRead shelf spec sol status text = ReadsAndAnswers spec_grammar (λ v. IsUnrea
 abbrev pub AnswersBoth : (SpecParts → List Structure → Status → List ℕ → Type 0) → ShelfSeen → List ℕ → List ℕ → Status → List ℕ → Type 0
 AnswersBoth answers shelf spec sol status text = ReadsAndAnswers spec_grammar (λ v. ReadsAndAnswers (solution_grammar v) (answers v) shelf sol) shelf spec status text
 
--- the status and its text are an answer to this command
+-- the status and its text are an answer to this command; a run is none of those that `plan` answers
 abbrev pub AnswersCommand : ShelfSeen → Command → Status → List ℕ → Type 0
 AnswersCommand shelf (synth spec) status text = AnswersSynth shelf spec status text
 AnswersCommand shelf (prove spec sol) status text = AnswersBoth Proves shelf spec sol status text
 AnswersCommand shelf (skel spec sol) status text = AnswersBoth Skels shelf spec sol status text
 AnswersCommand shelf (check spec sol certificate) status text = AnswersBoth (AnswersCertificate shelf certificate) shelf spec sol status text
 AnswersCommand shelf (replay spec sol journal) status text = AnswersBoth (AnswersJournal shelf journal) shelf spec sol status text
+AnswersCommand shelf (run spec sol callers room seed) status text = ⊥
 AnswersCommand shelf (migrate spec) status text = AnswersMigrate shelf spec status text
 
 -- the words are no command, and the usage is told; or they are one, and it is answered
@@ -106,16 +107,20 @@ pub record SinkSeen : Type 0 where
 abbrev pub sink_seen : {A : Type 0} → (A → Option (List ℕ)) → (A → ℕ) → A → A → SinkSeen
 sink_seen written faults old new = record { before = written old; after = written new; faults_before = faults old; faults_after = faults new }
 
--- what was written belongs to the status: its whole text; of a write fault, a prefix of another's; for want of memory,
--- nothing
-abbrev pub IsOutcome : List (List ℕ) → ShelfSeen → SinkSeen → Status → Type 0
-IsOutcome words shelf sink WriteFault = (other : Status) × (text : List ℕ) × AnswersWords words shelf other text × Rose sink.faults_before sink.faults_after × AppendsPrefix sink.before sink.after text
-IsOutcome words shelf sink OutOfMemory = sink.after ≡ sink.before
-IsOutcome words shelf sink status = (text : List ℕ) × AnswersWords words shelf status text × Appends sink.before sink.after text
+-- what was written belongs to the status, of which these are the answers: its whole text; of a write fault, a prefix of
+-- another's; for want of memory, nothing
+abbrev pub IsOutcome : (Status → List ℕ → Type 0) → SinkSeen → Status → Type 0
+IsOutcome answers sink WriteFault = (other : Status) × (text : List ℕ) × answers other text × Rose sink.faults_before sink.faults_after × AppendsPrefix sink.before sink.after text
+IsOutcome answers sink OutOfMemory = sink.after ≡ sink.before
+IsOutcome answers sink status = (text : List ℕ) × answers status text × Appends sink.before sink.after text
 
 -- the call ends with the number of a status, and what was written belongs to it
+abbrev pub IsEnded : (Status → List ℕ → Type 0) → SinkSeen → ℕ → Type 0
+IsEnded answers sink code = (status : Status) × (code ≡ code_of status) × IsOutcome answers sink status
+
+-- the call ends so with an answer to these words
 abbrev pub IsPlanned : List (List ℕ) → ShelfSeen → SinkSeen → ℕ → Type 0
-IsPlanned words shelf sink code = (status : Status) × (code ≡ code_of status) × IsOutcome words shelf sink status
+IsPlanned words shelf sink code = IsEnded (AnswersWords words shelf) sink code
 
 -- a text was put whole, and the status is this one; or a prefix of it, and it is that of a write fault
 abbrev pub IsSaid : Status → List ℕ → SinkSeen → Status → Type 0

@@ -1,5 +1,5 @@
 -- What each command owes where nothing hinders it.
-use Rattle.std.specs.Prelude.{ℕ, ◌≡◌, ◌⊎◌, Some, List}
+use Rattle.std.specs.Prelude.{ℕ, ◌≡◌, ◌⊎◌, Some, List, length}
 use Rattle.edge_io.specs.Counts.{Rose}
 use Rattle.pair_structure.specs.Structure.{Structure}
 use Rattle.conjunctive_compose.specs.declared.wish.Wish.{Wish}
@@ -14,9 +14,10 @@ use Rattle.ctl_text.specs.Value.{SpecParts}
 use Rattle.solution_text.specs.Failing.{IsFirstFailing}
 use Rattle.waitfor_check.specs.declared.star.Star.{Star}
 use Rattle.waitfor_check.specs.Accepted.{IsAccepted}
+use Rattle.firing_crew.specs.Crews.{MayWork}
 use Rattle.skeleton_tool.specs.Answer.{SinkSeen, IsFirstUnsatisfiable, spec_grammar, solution_grammar}
 use Rattle.skeleton_tool.specs.Check.{certificate_grammar}
-use Rattle.skeleton_tool.specs.Command.{Command, synth, prove, skel, check, replay, migrate, command_of}
+use Rattle.skeleton_tool.specs.Command.{Command, synth, prove, skel, check, replay, run, migrate, command_of}
 use Rattle.skeleton_tool.specs.Reading.{IsTold}
 use Rattle.skeleton_tool.specs.Replay.{journal_grammar}
 use Rattle.skeleton_tool.specs.Taking.{ShelfSeen}
@@ -64,7 +65,7 @@ DecidesCheck words shelf sink code = (files : List (List ℕ × List ℕ)) (spec
 
 -- 0 where the wishes are a run, else 4; or want of memory, 8
 abbrev pub DecidesRun : SystemParts → List Wish → ℕ → Type 0
-DecidesRun sys run code = (code ≡ 8) ⊎ (((code ≡ 0) × ((whole : WholeParts) × (moves : List ℕ) × LeavesWhole sys run whole moves)) ⊎ ((code ≡ 4) × ((at : ℕ) × (why : StepAnswer) × IsFirstStuck sys run at why)))
+DecidesRun sys wishes code = (code ≡ 8) ⊎ (((code ≡ 0) × ((whole : WholeParts) × (moves : List ℕ) × LeavesWhole sys wishes whole moves)) ⊎ ((code ≡ 4) × ((at : ℕ) × (why : StepAnswer) × IsFirstStuck sys wishes at why)))
 
 -- each journal is decided for a solution that solves, where nothing hinders it
 abbrev pub DecidesReplay : List (List ℕ) → ShelfSeen → SinkSeen → ℕ → Type 0
@@ -72,11 +73,20 @@ DecidesReplay words shelf sink code = (files : List (List ℕ × List ℕ)) (spe
     → IsUnhindered words shelf sink (replay spec sol journal) files → IsTold spec_grammar files spec v → IsTold (solution_grammar v) files sol structures → IsSystemOf v structures sys → IsTold (journal_grammar sys) files journal entries → Solves v.roles v.kinds structures
     → DecidesRun sys (wishes_of entries) code
 
+-- 0 where the callers may fire the system with so much room, else 7; or want of memory, 8
+abbrev pub DecidesNumbers : SpecParts → ℕ → ℕ → ℕ → Type 0
+DecidesNumbers v callers room code = (code ≡ 8) ⊎ (((code ≡ 0) × MayWork (length v.processes) callers room) ⊎ ((code ≡ 7) × (MayWork (length v.processes) callers room → ⊥)))
+
+-- each solution that solves is fired, where nothing hinders it and the numbers are within their limits
+abbrev pub DecidesFiring : List (List ℕ) → ShelfSeen → SinkSeen → ℕ → Type 0
+DecidesFiring words shelf sink code = (files : List (List ℕ × List ℕ)) (spec sol : List ℕ) (callers room seed : ℕ) (v : SpecParts) (structures : List Structure)
+    → IsUnhindered words shelf sink (run spec sol callers room seed) files → IsTold spec_grammar files spec v → IsTold (solution_grammar v) files sol structures → Solves v.roles v.kinds structures → DecidesNumbers v callers room code
+
 -- each specification is written, where nothing hinders it
 abbrev pub DecidesMigrate : List (List ℕ) → ShelfSeen → SinkSeen → ℕ → Type 0
 DecidesMigrate words shelf sink code = (files : List (List ℕ × List ℕ)) (spec : List ℕ) (v : SpecParts) → IsUnhindered words shelf sink (migrate spec) files → IsTold spec_grammar files spec v → (code ≡ 8) ⊎ (code ≡ 0)
 
--- what each command owes
+-- what each command owes but `run`, whose own line is above
 pub record Decides (words : List (List ℕ)) (shelf : ShelfSeen) (sink : SinkSeen) (code : ℕ) : Type 0 where
   pub decides_synth : DecidesSynth words shelf sink code
   pub decides_prove : DecidesProve words shelf sink code

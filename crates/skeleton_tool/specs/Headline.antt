@@ -1,6 +1,6 @@
 -- What a call promises of each command, in its subject's words. Each holds for all files that are told, and for each
 -- status that it names.
-use Rattle.std.specs.Prelude.{ℕ, ◌≡◌, ◌⊎◌, Some, List, codes}
+use Rattle.std.specs.Prelude.{ℕ, ◌≡◌, ◌⊎◌, Some, List, codes, length}
 use Rattle.edge_io.specs.Told.{Appends}
 use Rattle.pair_structure.specs.Structure.{Structure}
 use Rattle.conjunctive_compose.specs.declared.wish.Wish.{Wish}
@@ -14,14 +14,17 @@ use Rattle.ctl_text.specs.Value.{SpecParts}
 use Rattle.waitfor_check.specs.declared.star.Star.{Star}
 use Rattle.waitfor_check.specs.Accepted.{IsAccepted}
 use Rattle.waitfor_check.specs.Laws.{GoesOn}
+use Rattle.firing_crew.specs.Crews.{MayWork, orders_of}
 use Rattle.skeleton_tool.specs.declared.status.Status.TheVariants.{Fails}
 use Rattle.skeleton_tool.specs.Answer.{SinkSeen, IsSolved, IsUnsolvable, spec_grammar, solution_grammar}
 use Rattle.skeleton_tool.specs.Check.{TellsVerdict, certificate_grammar}
-use Rattle.skeleton_tool.specs.Command.{Command, synth, prove, skel, check, replay, migrate, command_of}
+use Rattle.skeleton_tool.specs.Command.{Command, synth, prove, skel, check, replay, run, migrate, command_of}
 use Rattle.skeleton_tool.specs.Failing.{NamesFailing}
 use Rattle.skeleton_tool.specs.Migrate.{IsMigrated}
 use Rattle.skeleton_tool.specs.Reading.{IsTold}
+use Rattle.skeleton_tool.specs.Refusal.{out_of_limits_text}
 use Rattle.skeleton_tool.specs.Replay.{TellsRun, TellsStuck, journal_grammar}
+use Rattle.skeleton_tool.specs.Run.{IsReportOf}
 use Rattle.skeleton_tool.specs.Skel.{ShowsSkeletons}
 use Rattle.skeleton_tool.specs.Taking.{ShelfSeen}
 use Rattle.skeleton_tool.specs.Third.{IsSystemOf}
@@ -74,11 +77,19 @@ ReplayTells words shelf sink code = (files : List (List ℕ × List ℕ)) (spec 
     → IsCalled words shelf (replay spec sol journal) files → IsTold spec_grammar files spec v → IsTold (solution_grammar v) files sol structures → IsSystemOf v structures sys → IsTold (journal_grammar sys) files journal entries
     → (code ≡ 0 → Solves v.roles v.kinds structures × Writes sink (TellsRun sys (wishes_of entries))) × (code ≡ 4 → Writes sink (λ text. (Solves v.roles v.kinds structures × TellsStuck sys (wishes_of entries) text) ⊎ NamesFailing v structures text))
 
+-- `run` with 0: the solution solves, and the text of a lawful report of the one system is written: its journal is a run, on
+-- each edge a path of the pair's structure, and each caller has a list by the rule. With 7: the solution solves, the
+-- numbers are out of their limits, and that is told. With 4: as `prove`
+abbrev pub RunReports : ℕ → List (List ℕ) → ShelfSeen → SinkSeen → ℕ → Type 0
+RunReports turn words shelf sink code = (files : List (List ℕ × List ℕ)) (spec sol : List ℕ) (callers room seed : ℕ) (v : SpecParts) (structures : List Structure) (sys : SystemParts)
+    → IsCalled words shelf (run spec sol callers room seed) files → IsTold spec_grammar files spec v → IsTold (solution_grammar v) files sol structures → IsSystemOf v structures sys
+    → (code ≡ 0 → Solves v.roles v.kinds structures × MayWork (length v.processes) callers room × Writes sink (IsReportOf sys (orders_of callers room seed turn))) × (code ≡ 7 → Solves v.roles v.kinds structures × (MayWork (length v.processes) callers room → ⊥) × Writes sink (λ text. text ≡ out_of_limits_text)) × (code ≡ 4 → Writes sink (NamesFailing v structures))
+
 -- `migrate` with 0: the canonical text of the specification
 abbrev pub MigrateWrites : List (List ℕ) → ShelfSeen → SinkSeen → ℕ → Type 0
 MigrateWrites words shelf sink code = (files : List (List ℕ × List ℕ)) (spec : List ℕ) (v : SpecParts) → IsCalled words shelf (migrate spec) files → IsTold spec_grammar files spec v → code ≡ 0 → Writes sink (IsMigrated v)
 
--- what is promised of each command
+-- what is promised of each command but `run`, whose own line is above
 pub record Promises (words : List (List ℕ)) (shelf : ShelfSeen) (sink : SinkSeen) (code : ℕ) : Type 0 where
   pub synth_solves : SynthSolves words shelf sink code
   pub synth_finds_none : SynthFindsNone words shelf sink code

@@ -5,12 +5,15 @@ pub mod Complete
 pub mod Failing
 pub mod Headline
 pub mod Migrate
+pub mod Number
 pub mod OneAnswer
 pub mod Reading
 pub mod Refusal
 pub mod Replay
+pub mod Run
 pub mod Skel
 pub mod Status
 pub mod Taking
 pub mod Third
+pub mod Top
 pub mod inside

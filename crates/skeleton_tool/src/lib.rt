@@ -13,6 +13,7 @@ mod reading;
 mod refusal;
 mod replaying;
 mod run_text;
+mod running;
 mod showing;
 mod solving;
 mod status;
@@ -20,7 +21,10 @@ mod stop;
 mod synthesis;
 mod taking;
 mod third;
+mod threaded;
 mod verdict_text;
 
 pub use call::plan;
+pub use command::is_run;
 pub use laws::{names_commands, one_answer, one_system};
+pub use threaded::top;

@@ -1,6 +1,6 @@
 ghost use Rattle.std.specs.Prelude.{◌≡◌, ◌++◌, [], OnOk};
 ghost use Rattle.skeleton_tool.specs.Reading.{IsRefusedAs};
-ghost use Rattle.skeleton_tool.specs.Refusal.{refused_text};
+ghost use Rattle.skeleton_tool.specs.Refusal.{out_of_limits_text, refused_text};
 ghost use Rattle.skeleton_tool.specs.Taking.{StopsAs};
 
 use crate::status::Status;
@@ -40,5 +40,13 @@ fn write_refused(
     into.extend_from_slice(b" ")?;
     into.extend_from_slice(cause_word(cause).as_bytes())?;
     into.extend_from_slice(b"\n")?;
+    Ok(())
+}
+
+/// Appends that a number of the call is out of its limits.
+pub(crate) fn write_out_of_limits(into: &mut Vec<u8>) -> Result<(), AllocError>
+    ensures { OnOk result (into.new.items ≡ into.old.items ++ out_of_limits_text) }
+{
+    into.extend_from_slice(b"out of limits\n")?;
     Ok(())
 }

@@ -8,6 +8,7 @@ pub(crate) enum Status {
     Fails,
     ReadFault,
     WriteFault,
+    OutOfLimits,
     OutOfMemory,
 }
 
@@ -27,6 +28,7 @@ impl Status {
             Status::Fails => 4,
             Status::ReadFault => 5,
             Status::WriteFault => 6,
+            Status::OutOfLimits => 7,
             Status::OutOfMemory => 8,
         }
     }

@@ -8,9 +8,11 @@ use crate::words::words_of;
 use anyhow::Result;
 use std::fs;
 use std::rt::Files;
+use std::sync::Wait;
+use std::thread::Threads;
 
 /// What was wanted and what came, where that differs.
-pub fn difference_of<R: Files + AllocGlobal>(
+pub fn difference_of<R: Files + AllocGlobal + Threads + Wait + Sync>(
     rt: &R,
     pieces: &Pieces,
     row: Row<'_>,

@@ -6,6 +6,8 @@ use crate::text::{Pieces, written_out};
 use anyhow::{Result, bail};
 use std::alloc::Global;
 use std::rt::Files;
+use std::sync::Wait;
+use std::thread::Threads;
 
 /// The pieces that are named so far, and how many rows there were.
 #[derive(Drop)]
@@ -30,7 +32,7 @@ impl Tally {
     }
 
     /// Takes the line with this number. One that cannot be read counts as a row that differs.
-    pub fn take<R: Files + AllocGlobal + Print>(
+    pub fn take<R: Files + AllocGlobal + Print + Threads + Wait + Sync>(
         &mut self,
         rt: &R,
         number: u64,
@@ -48,7 +50,11 @@ impl Tally {
     }
 
     /// What differs in this line, if anything.
-    fn difference<R: Files + AllocGlobal>(&mut self, rt: &R, line: &str) -> Result<Option<String>> {
+    fn difference<R: Files + AllocGlobal + Threads + Wait + Sync>(
+        &mut self,
+        rt: &R,
+        line: &str,
+    ) -> Result<Option<String>> {
         match line_of(line) {
             Line::Nothing => Ok(None),
             Line::Piece { name, text } => {

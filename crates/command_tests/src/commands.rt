@@ -1,12 +1,13 @@
-//! `plan` over files and an output in memory, of which a call may fail.
+//! `plan` and `top` over files and an output in memory, of which a call may fail.
 
-ghost use Rattle.std.specs.Prelude.{All};
-ghost use Rattle.skeleton_tool.specs.Command.{asked_files, command_of, words_of};
+ghost use Rattle.std.specs.Prelude.{◌≡◌, ◌<◌, All};
+ghost use Rattle.firing_crew.specs.Policies.{chosen};
+ghost use Rattle.skeleton_tool.specs.Command.{AsksRun, asked_files, command_of, words_of};
 
-use crate::table::{agree, expect};
 use edge_io::{MemoryShelf, MemorySink, Shelf, Sink};
-use samples::{PHIL, cut, long, to_lines, to_slashes};
-use skeleton_tool::plan;
+use firing_crew::{Chooser, Policy};
+use samples::{PHIL, cut, differing, long, to_lines, to_slashes};
+use skeleton_tool::{is_run, plan, top};
 use std::alloc::Global;
 use std::test::Fail;
 
@@ -45,7 +46,22 @@ const CALLS: &str = "9 9 prove spec sol = 0 solves/
 9 0 migrate spec = 6
 9 0 synth other = 6
 9 0 synth = 6
-9 9 synth - = 1 usage:/  synth SPEC/  prove SPEC SOL/  skel SPEC SOL/  check SPEC SOL CERT/  replay SPEC SOL JOURNAL/  migrate SPEC/";
+9 9 synth - = 1 usage:/  synth SPEC/  prove SPEC SOL/  skel SPEC SOL/  check SPEC SOL CERT/  replay SPEC SOL JOURNAL/  run SPEC SOL CALLERS ROOM SEED/  migrate SPEC/";
+
+/// The same of runs, which `top` answers, and of other words that it does.
+const RUNS: &str =
+    "9 9 run spec sol 1 2 0 = 0 journal 1/entry 0 0 0 0 5624/entry 1 0 0 1 51790/done/report 1/caller 0/fired 0 0 5624 0/fired 0 1 51790 1/end/
+9 9 run spec sol 2 2 0 = 7 out of limits/
+9 9 run spec sol 1 0 0 = 7 out of limits/
+0 9 run spec sol 1 2 0 = 5 read fault spec/
+1 9 run spec sol 1 2 0 = 5 read fault solution/
+9 9 run other sol 1 2 0 = 5 read fault spec/
+9 0 run spec sol 1 2 0 = 6
+9 0 run spec sol 2 2 0 = 6
+9 0 run spec sol 1 2 = 6
+9 9 prove spec sol = 0 solves/
+1 9 prove spec sol = 5 read fault solution/
+9 0 prove spec sol = 6";
 
 fn files(alloc: Global) -> Result<Vec<(String, Vec<u8>)>, Fail> {
     let spec = format!(in alloc; "pairs 1/{PHIL}{KIND}done/")?;
@@ -63,9 +79,17 @@ fn files(alloc: Global) -> Result<Vec<(String, Vec<u8>)>, Fail> {
     Ok(files)
 }
 
-/// The status of `plan`.
-fn status(alloc: Global, words: &[String], shelf: &mut MemoryShelf, sink: &mut MemorySink) -> u8 {
-    plan(alloc, words, shelf, sink)
+/// The status of `plan`, and what it writes.
+fn planned(alloc: Global, words: &str, shelf: u64, sink: u64) -> Result<String, Fail> {
+    let owned = owned(alloc, words)?;
+    if is_run(&owned) {
+        return Err(Fail::from("words that do not begin with `run`"));
+    }
+    let mut shelf = MemoryShelf::new(files(alloc)?, vec![in alloc; shelf]?);
+    let mut sink = MemorySink::new(alloc, 4_096, vec![in alloc; sink]?)?;
+    let status = plan(alloc, &owned, &mut shelf, &mut sink);
+    let text = to_slashes(alloc, sink.bytes())?;
+    Ok(format!(in alloc; "{status} {text}")?)
 }
 
 fn owned(alloc: Global, words: &str) -> Result<Vec<String>, Fail> {
@@ -76,15 +100,6 @@ fn owned(alloc: Global, words: &str) -> Result<Vec<String>, Fail> {
     Ok(owned)
 }
 
-fn planned(alloc: Global, words: &str, shelf: u64, sink: u64) -> Result<String, Fail> {
-    let owned = owned(alloc, words)?;
-    let mut shelf = MemoryShelf::new(files(alloc)?, vec![in alloc; shelf]?);
-    let mut sink = MemorySink::new(alloc, 4_096, vec![in alloc; sink]?)?;
-    let status = status(alloc, &owned, &mut shelf, &mut sink);
-    let text = to_slashes(alloc, sink.bytes())?;
-    Ok(format!(in alloc; "{status} {text}")?)
-}
-
 fn told(alloc: Global, asked: &str) -> Result<String, Fail> {
     let (shelf, rest) = cut(asked, " ");
     let (sink, words) = cut(rest, " ");
@@ -93,7 +108,44 @@ fn told(alloc: Global, asked: &str) -> Result<String, Fail> {
 
 #[test]
 fn answers_each_command(rt: HostRuntime) -> Result<(), Fail> {
-    expect(&rt, rt.alloc(), CALLS, told)
+    assert_eq!(rt; differing(rt.alloc(), CALLS, told)?.as_str(), "");
+    Ok(())
+}
+
+#[test]
+fn answers_runs(rt: HostRuntime) -> Result<(), Fail> {
+    let alloc = rt.alloc();
+    let chooser: Chooser = Box::new(
+        alloc,
+        |count: u64, word: u64| -> u64
+            requires { 0 < count }
+            ensures { result ≡ chosen 0 count word }
+        { word % count },
+    )?;
+    let policy = Policy::new(chooser, 0);
+    let mut told = String::new(alloc);
+    for row in RUNS.lines() {
+        let (asked, answer) = cut(row, " =");
+        let (shelf, rest) = cut(asked, " ");
+        let (sink, words) = cut(rest, " ");
+        let mut shelf = MemoryShelf::new(files(alloc)?, vec![in alloc; long(shelf)]?);
+        let mut sink = MemorySink::new(alloc, 4_096, vec![in alloc; long(sink)]?)?;
+        let status = top(
+            &rt,
+            alloc,
+            &owned(alloc, words)?,
+            &mut shelf,
+            &mut sink,
+            &policy,
+        );
+        let text = to_slashes(alloc, sink.bytes())?;
+        let text = format!(in alloc; "{status} {text}")?;
+        if text.as_str().trim() != answer.trim() {
+            told.push_str(&format!(in alloc; "{row}, told: {text}\n")?)?;
+        }
+    }
+    assert_eq!(rt; told.as_str(), "");
+    Ok(())
 }
 
 /// The statuses of two calls on one shelf, one after the other, by a caller that knows the shelf by its trait alone.
@@ -106,6 +158,8 @@ fn planned_twice<S: Shelf, K: Sink>(
 ) -> (u8, u8)
     requires first { All (λ file. S.may_ask shelf.old file.0 file.1) (asked_files (command_of (words_of first.now))) }
     requires second { All (λ file. S.may_ask shelf.old file.0 file.1) (asked_files (command_of (words_of second.now))) }
+    requires first_plain { AsksRun (words_of first.now) → ⊥ }
+    requires second_plain { AsksRun (words_of second.now) → ⊥ }
 {
     let one = plan(alloc, first, shelf, sink);
     let other = plan(alloc, second, shelf, sink);
@@ -116,6 +170,9 @@ fn planned_twice<S: Shelf, K: Sink>(
 fn twice_told(alloc: Global) -> Result<String, Fail> {
     let first = owned(alloc, "synth spec")?;
     let second = owned(alloc, "prove spec sol")?;
+    if is_run(&first) || is_run(&second) {
+        return Err(Fail::from("words that do not begin with `run`"));
+    }
     let mut shelf = MemoryShelf::new(files(alloc)?, Vec::new(alloc));
     let mut sink = MemorySink::new(alloc, 4_096, Vec::new(alloc))?;
     let (one, other) = planned_twice(alloc, &first, &second, &mut shelf, &mut sink);
@@ -124,5 +181,6 @@ fn twice_told(alloc: Global) -> Result<String, Fail> {
 
 #[test]
 fn answers_twice_on_one_shelf(rt: HostRuntime) -> Result<(), Fail> {
-    agree(&rt, twice_told(rt.alloc()), "0 0")
+    assert_eq!(rt; twice_told(rt.alloc())?.as_str(), "0 0");
+    Ok(())
 }
